@@ -1,5 +1,6 @@
 #!/usr/bin/env python3
-"""Certificates and lock files that were made outside of the program, handed to `check` and `refute`: bench/foreign.sh.
+"""Certificates and lock files that were made outside of the program, handed to `check` and `refute`: bench/foreign.sh. What was done up to an
+interrupt (SIGINT) is told.
 
     bench/foreign.sh [--program FILE --encoder FILE] [OPTION..] FILE..
 
@@ -147,6 +148,8 @@ def main():
                 bench.run(case, Path(name))
             except (OSError, ValueError, KeyError) as fault:
                 bench.faults.append("%s: %s" % (case["name"], fault))
+            except KeyboardInterrupt:
+                break
     for fault in bench.faults:
         print(fault)
     count = bench.certificates + bench.refutations

@@ -64,7 +64,7 @@ def told(words: list[str], done: "subprocess.CompletedProcess[str]", room: str) 
     """All that a person is told of a run; the views are asked in the room."""
     log = Path(room) / "log"
     log.write_text(done.stderr, "utf-8")
-    if done.returncode == 1 and words[0] == "explain":
+    if done.returncode == 1 and words[0] in ("explain", "reasons"):
         return view(show_reasons.main, words[1:])
     return done.stderr + view(show_fault.main, [str(log), *words])
 
@@ -145,6 +145,8 @@ def json_runs() -> list[tuple[list[str], dict[str, Any]]]:
         (["explain", *mpi, "hdf5"], {"status": 0, "said": "satisfiable"}),
         (["explain", *mpi, "hdf5@9"], {"status": 1}),
         (["explain", *mpi, "hdf5 ++mpi"], {"status": 4, "answer": "BadInput"}),
+        (["reasons", *mpi, "hdf5"], {"status": 0, "said": "satisfiable"}),
+        (["reasons", *mpi, "hdf5@1.14: ~shared"], {"status": 1, "answer": "Unsatisfiable"}),
         (["trial", "20", "1"], {"status": 0, "learnt": 0}),
         (["trial", "0", "1"], {"status": 2, "answer": "Usage"}),
         ([], {"status": 2, "answer": "Usage"}),

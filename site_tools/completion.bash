@@ -1,7 +1,7 @@
 # Completion for bash: `source site_tools/completion.bash`. It completes the commands and the launcher's own words, files by
 # their places, and the names of packages in REPO, also behind `^`. Behind `--json` and `help` stands a command.
 _spack_concretize() {
-  local word=${COMP_WORDS[COMP_CWORD]} front='' commands='concretize judge check fresh refute explain find plan trial' at=1 specs_from
+  local word=${COMP_WORDS[COMP_CWORD]} front='' commands='concretize judge check fresh refute explain reasons find plan trial' at=1 specs_from
   COMPREPLY=()
   case ${COMP_WORDS[1]:-} in --json | help) [ "$COMP_CWORD" = 1 ] || at=2 ;; esac
   local command=${COMP_WORDS[at]:-} place=$((COMP_CWORD - at))
@@ -14,7 +14,7 @@ _spack_concretize() {
   case $command in
   concretize | check) specs_from=6 ;;
   judge | fresh | refute | plan) specs_from=5 ;;
-  explain | find) specs_from=4 ;;
+  explain | reasons | find) specs_from=4 ;;
   *) return ;;
   esac
   if [ "$place" = 1 ] && [[ $word == -* ]]; then

@@ -1,4 +1,4 @@
-"""Checks of what makes and trims logs, used by test.py, run by no one else: a checker of logs written apart, and random problems."""
+"""Checks of what makes, trims and checks logs, used by test.py, run by no one else: random problems, stored proofs and mistakes."""
 import contextlib
 import io
 import itertools
@@ -11,7 +11,7 @@ from pathlib import Path
 from typing import Callable, Iterator, Optional
 from unittest import mock
 
-from bridge import dimacs, drat_to_log, model_to_lock, optimize, proof_logs, solvers, trim_log
+from bridge import check_log, dimacs, drat_to_log, log_rules, model_to_lock, optimize, proof_logs, solvers, trim_log
 
 TOP = Path(__file__).resolve().parent.parent
 LOGS = TOP / "site_tools" / "tests" / "logs"
@@ -34,55 +34,14 @@ def told(main: Callable[[list[str]], int], words: list[str]) -> str:
     return out.getvalue() + (f"status {status}\n" if status else "")
 
 
-def resolved(known: dict[int, frozenset[int]], chain: list[int]) -> frozenset[int]:
-    """What a chain of resolution steps gives."""
-    left = known[chain[0]]
-    for number in chain[1:]:
-        pivots = [literal for literal in left if -literal in known[number]]
-        if len(pivots) != 1:
-            raise ValueError(f"{len(pivots)} pivots")
-        left = (left - {pivots[0]}) | (known[number] - {-pivots[0]})
-    return left
-
-
-def wrong_line(clauses: list[list[int]], variables: int, bits: list[int], values: Optional[list[bool]], text: str) -> Optional[str]:
-    """The first line that is wrong, by docs/formats/proof_log.md; `values` of the bits for a certificate, None for a refutation."""
-    known = dict(enumerate(map(frozenset, clauses), 1))
-    rivals = set(known.values())
-    settled, end, head, *lines = 0, "", *text.split("\n")
-    wanted = [] if values is None else values
-    if head != f"p 1 {variables} {len(clauses)} {len(wanted)}" or lines.pop() != "":
-        return "p"
-    for line in lines:
-        kind, *words = line.split(" ")
-        numbers = list(map(int, words))
-        try:
-            if end:
-                return f"{line}: behind the end"
-            if kind == "e":
-                end = "e" if settled == len(wanted) and values is not None else "early"
-            elif kind == "u":
-                end = "u" if values is None and not resolved(known, numbers[:-1]) else "not empty"
-            else:
-                if numbers[0] != len(known) + 1:
-                    return f"{line}: id"
-                if kind == "l":
-                    cut = numbers.index(0)
-                    clause, chain = frozenset(numbers[1:cut]), numbers[cut + 1:-1]
-                    if numbers[1:cut] != sorted(clause, key=abs) or clause in rivals:
-                        return f"{line}: not new, or not in order"
-                    rivals.add(clause)
-                else:
-                    if numbers[1] != settled or wanted[settled] != (kind == "o"):
-                        return f"{line}: bit"
-                    clause, chain = frozenset([bits[settled] if kind == "o" else -bits[settled]]), numbers[2:-1]
-                    settled += 1
-                if kind != "z" and not resolved(known, chain) <= clause:
-                    return f"{line}: not contained"
-                known[numbers[0]] = clause
-        except (ValueError, KeyError, IndexError) as fault:
-            return f"{line}: {fault}"
-    return None if end in ("e", "u") else f"ends {end!r}"
+def wrong_log(problem: dimacs.Problem, values: Optional[list[bool]], text: str) -> Optional[str]:
+    """Why a log is no certificate of these values of the bits, or no refutation where they are None."""
+    try:
+        found = log_rules.Rules(problem, text).check()
+    except log_rules.Wrong as fault:
+        return str(fault)
+    wanted = ("u", []) if values is None else ("e", values)
+    return None if (found.end, found.values) == wanted else f"it shows {found}"
 
 
 def random_problem(chance: random.Random) -> dimacs.Problem:
@@ -139,19 +98,20 @@ def check_random() -> Check:
     counts = {"certificates": 0, "refutations": 0, "learnt": 0}
     for number, solver in enumerate(calls):
         problem = random_problem(chance)
-        bits = problem.bits()
         values, made = searched(problem, solver)
         if values != least(problem):
             yield f"random problem {number}", f"{values} are not the least bits"
         counts["refutations" if values is None else "certificates"] += 1
-        again = made if values is not None else drat_to_log.log_of(problem, lrat(made))
-        for log in (made, proof_logs.trimmed(made), again):
-            fault = wrong_line(problem.clauses, problem.variables, bits, values, log.text())
-            counts["learnt"] += sum(line.kind == "l" for line in log.lines)
+        text = made.text().encode()
+        kept = proof_logs.trimmed(text)
+        again = kept if values is not None else drat_to_log.log_of(problem, lrat(made))
+        for each in (text, kept.text, again.text):
+            fault = wrong_log(problem, values, each.decode())
+            counts["learnt"] += each.count(b"\nl ")
             if fault:
                 yield f"random problem {number}", fault
-            if proof_logs.read(log.text()) != log:
-                yield f"random problem {number}", "its log is not read as it was written"
+        if proof_logs.trimmed(kept.text) != proof_logs.Kept(kept.text, kept.learnt, kept.learnt, kept.ids):
+            yield f"random problem {number}", "its log without dead lines is not that of itself"
     if min(counts.values()) == 0:
         yield "random problems", f"show too little: {counts}"
 
@@ -167,8 +127,7 @@ def check_proofs() -> Check:
         for cnf, proof in rows:
             said = told(drat_to_log.main, [str(LOGS / f"{cnf}.cnf"), str(LOGS / proof), str(log)])
             problem = dimacs.read(LOGS / f"{cnf}.cnf")
-            variables, count = problem.rules
-            fault = wrong_line(problem.clauses[:count], variables, [], None, log.read_text("ascii")) if log.exists() else said
+            fault = wrong_log(problem, None, log.read_text("ascii")) if log.exists() else said
             if fault or "status" in said:
                 yield f"logs/{proof}", f"{fault} {said}"
             log.unlink(missing_ok=True)
@@ -182,23 +141,39 @@ def check_proofs() -> Check:
 
 def check_mistakes() -> Check:
     """Each wrong file of logs/mistakes.rows is told by what is wrong, and nothing is written."""
-    mains = {"drat_to_log": drat_to_log, "trim_log": trim_log, "model_to_lock": model_to_lock, "optimize": optimize}
+    mains = {"check_log": check_log, "drat_to_log": drat_to_log, "trim_log": trim_log, "model_to_lock": model_to_lock, "optimize": optimize}
     for row in (LOGS / "mistakes.rows").read_text("ascii").splitlines():
         if not row or row.startswith("#"):
             continue
         words, text, wanted = row.split(" | ")
         with tempfile.TemporaryDirectory() as name:
             room = Path(name)
-            (room / "file").write_text(text.replace("\\n", "\n"), "ascii")
+            (room / "file").write_text(text.replace("\\n", "\n").replace("\\0", "\0"), "ascii")
             tool, *rest = words.replace("@/", f"{LOGS}/").replace("FILE", str(room / "file")).replace("OUT", str(room / "out")).split(",")
             said = told(mains[tool].main, rest)
             if wanted not in said or "status" not in said or (room / "out").exists():
                 yield f"logs/mistakes.rows `{words}`", f"wanted {wanted!r}, got {said!r}"
 
 
+def check_read() -> Check:
+    """What check_log says of the logs of logs/read.rows."""
+    for row in (LOGS / "read.rows").read_text("ascii").splitlines():
+        if row.startswith("#"):
+            continue
+        clauses, text, wanted = row.split(" | ")
+        name, _, solver = clauses.partition(" ")
+        with tempfile.TemporaryDirectory() as room:
+            log = Path(room) / "log"
+            log.write_text(text.replace("\\n", "\n"), "ascii")
+            said = told(check_log.main, [str(LOGS / name), str(log), *(["--solver", DPLL] if solver else [])])
+        is_right = "line " not in wanted and "no graph has" not in wanted
+        if wanted not in said or ("status" in said) == is_right:
+            yield f"logs/read.rows `{text}`", f"wanted {wanted!r}, got {said!r}"
+
+
 def check_logs() -> Check:
     """All checks that need no program."""
-    for check in (check_random, check_proofs, check_mistakes):
+    for check in (check_random, check_proofs, check_mistakes, check_read):
         yield from check()
 
 

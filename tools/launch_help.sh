@@ -18,6 +18,8 @@ spack_concretize refute REPO SETTINGS DATABASE CERT SPEC..
     says whether the certificate CERT shows that there is no valid graph
 spack_concretize explain REPO SETTINGS DATABASE SPEC..
     says that there is a graph, or which directives and specs stand against one
+spack_concretize reasons REPO SETTINGS DATABASE SPEC..
+    says so by as few that none can be left out, and below each shows a graph without it
 spack_concretize find REPO SETTINGS DATABASE SPEC..
     says which installed packages meet the spec, which need not name one
 spack_concretize plan REPO SETTINGS DATABASE LOCK SPEC..

@@ -94,7 +94,7 @@ run_on_terminal() {
   (echo ended >&"$held") 2>/dev/null || true
   [ "$opened" = 2 ] || tell_said "$status" "$@"
   case "$name:$status:${1:-}" in
-  spack_concretize:1:concretize | spack_concretize:1:explain)
+  spack_concretize:1:concretize | spack_concretize:1:explain | spack_concretize:1:reasons)
     printf -v said ' %q' "${@:2:3}" "${@:$([ "$1" = concretize ] && echo 7 || echo 5)}"
     tell "why, in words: $top/site_tools/show_reasons$said"
     ;;

@@ -2,6 +2,7 @@
 """Damages lock files and certificates, and looks for a yes of `check` or `refute` that is wrong.
 
     damaged_pairs.py PROGRAM [COUNT [SEED]]
+    nice -n 15 taskset -c 0 damaged_pairs.py PROGRAM 100000     on one processor
 
 Some problems of examples/ are concretized. Then, COUNT times (1,000), a lock file or certificate, or both, get up to three damages: a byte,
 a line dropped, doubled or moved, an end cut off, a number raised, or the file of another problem. A yes of `check` is wrong where
@@ -18,12 +19,14 @@ import tempfile
 
 TOP = os.path.dirname(os.path.dirname(os.path.dirname(os.path.abspath(__file__))))
 PROBLEMS = [
-    ("mpi", "mpi/settings.json", "hdf5@1.14: +mpi"),
-    ("mpi", "mpi/settings.json", "hdf5 ~mpi"),
-    ("mpi", "-", "hdf5 ^mpich"),
-    ("mpi", "-", "hdf5@1.14: ~mpi ^mpich"),
-    ("versions", "-", "zlib"),
-    ("versions", "-", "zlib@=1.2"),
+    ("mpi", "mpi/settings.json", "-", "hdf5@1.14: +mpi"),
+    ("mpi", "mpi/settings.json", "-", "hdf5 ~mpi"),
+    ("mpi", "-", "-", "hdf5 ^mpich"),
+    ("mpi", "-", "-", "hdf5@1.14: ~mpi ^mpich"),
+    ("versions", "-", "-", "zlib"),
+    ("versions", "-", "-", "zlib@=1.2"),
+    # its log has learnt clauses
+    ("site", "site/settings.json", "site/database.json", "hdf5"),
 ]
 
 
@@ -66,8 +69,8 @@ def damaged(draw, text, others):
 
 class Pair:
     def __init__(self, program, folder, number, problem):
-        repo, settings, spec = problem
-        self.before = [os.path.join(TOP, "examples", repo), settings if settings == "-" else os.path.join(TOP, "examples", settings), "-"]
+        *files, spec = problem
+        self.before = [each if each == "-" else os.path.join(TOP, "examples", each) for each in files]
         self.spec = spec
         lock, cert = (os.path.join(folder, "%d.%s" % (number, end)) for end in ("lock", "log"))
         self.status, out = run(program, "concretize", *self.before, lock, cert, spec)
@@ -112,7 +115,7 @@ def main():
     folder = tempfile.mkdtemp(prefix="damaged.")
     pairs = [Pair(program, folder, number, problem) for number, problem in enumerate(PROBLEMS)]
     statuses, bad = collections.Counter(), 0
-    with concurrent.futures.ThreadPoolExecutor(os.cpu_count()) as pool:
+    with concurrent.futures.ThreadPoolExecutor(len(os.sched_getaffinity(0))) as pool:
         for checked, refuted, wrong, seed in pool.map(lambda s: attempt(program, folder, pairs, s), range(first, first + count)):
             statuses["check %d" % checked] += 1
             statuses["refute %d" % refuted] += 1

@@ -34,6 +34,7 @@ class Encoding:
         self.providers = {}  # virtual: list of (package, literal)
         self.demands = {}  # the id of a clause: its demand
         self.numbers = []  # (spelling, greatest value, literals)
+        self.bit_lines = []  # (literal, "BIT number PLACE weight WEIGHT")
         self.clauses = []
         self.variables = None
         self.rules = None  # how many variables and clauses are those of the rules
@@ -51,6 +52,8 @@ class Encoding:
             raise Wrong("not as many clauses as are said")
         if self.rules is None or any(abs(lit) > self.rules[0] for clause in self.clauses[: self.rules[1]] for lit in clause):
             raise Wrong("a clause of the rules has another variable")
+        if self.bit_lines != list(self.named_bits()):
+            raise Wrong("the bits are not those of the numbers")
         self.table = sorted({abs(lit) for lit, _ in self.literals()})
 
     def comment(self, line):
@@ -64,6 +67,8 @@ class Encoding:
             if int(kind) != len(self.numbers) + 1 or lits.pop() != "0":
                 raise Wrong("no number: " + line)
             self.numbers.append((spelling, int(top), [int(lit) for lit in lits]))
+        elif kind == "bit":
+            self.bit_lines.append((int(first), rest))
         elif kind == "node":
             self.present[rest] = int(first)
             self.choices[rest] = {attribute: [] for attribute in ATTRIBUTES}
@@ -83,6 +88,14 @@ class Encoding:
             self.providers.setdefault(virtual, []).append((package, int(first)))
         else:
             raise Wrong("no comment: " + line)
+
+    def named_bits(self):
+        """What the lines of bits have to say, by those of the numbers."""
+        bit = 0
+        for place, (spelling, _, lits) in enumerate(self.numbers, 1):
+            for behind, lit in zip(range(len(lits) - 1, -1, -1), lits):
+                yield lit, "%d number %d weight %d" % (bit, place, 1 if spelling == "unary" else 2 ** behind)
+                bit += 1
 
     def literals(self):
         """Each literal of the table, with what it stands for."""

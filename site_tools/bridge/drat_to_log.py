@@ -19,16 +19,18 @@ def rules_text(problem: dimacs.Problem) -> str:
     return "\n".join([f"p cnf {variables} {count}", *lines]) + "\n"
 
 
-def log_of(problem: dimacs.Problem, data: bytes) -> proof_logs.Log:
-    """The log of a refutation; `NoProof` where it is none."""
+def log_of(problem: dimacs.Problem, data: bytes) -> proof_logs.Kept:
+    """The log of a refutation, without lines that nothing rests on; `NoProof` where it is none."""
     steps, has_hints = proof_steps.read(data)
     variables, count = problem.rules
     if has_hints:
-        return proof_logs.trimmed(refuter.log_by_hints(variables, problem.clauses[:count], steps))
-    made = refuter.Refuter(variables, problem.clauses[:count], 0)
-    if not made.unsat(steps):
-        raise proof_steps.NoProof("its steps do not end in a conflict by unit propagation")
-    return made.log
+        log = refuter.log_by_hints(variables, problem.clauses[:count], steps)
+    else:
+        made = refuter.Refuter(variables, problem.clauses[:count], 0)
+        if not made.unsat(steps):
+            raise proof_steps.NoProof("its steps do not end in a conflict by unit propagation")
+        log = made.log
+    return proof_logs.trimmed(log.text().encode())
 
 
 def main(words: Optional[list[str]] = None) -> int:
@@ -47,13 +49,12 @@ def main(words: Optional[list[str]] = None) -> int:
             given.proof.write_text(rules_text(problem), "ascii")
             return 0
         log = log_of(problem, given.proof.read_bytes())
-        given.log.write_text(log.text(), "ascii")
+        given.log.write_bytes(log.text)
     except proof_steps.NoProof as fault:
         print(f"drat_to_log: {given.proof}: {fault}", file=sys.stderr)
         return 1
     except (OSError, ValueError) as fault:
         print(f"drat_to_log: {fault}", file=sys.stderr)
         return 2
-    learnt = sum(line.kind == "l" for line in log.lines)
-    print(f"{learnt} learnt clauses, {sum(len(line.chain) for line in log.lines)} ids in chains")
+    print(f"{log.learnt} learnt clauses, {log.ids} ids in chains")
     return 0

@@ -20,6 +20,7 @@ TAKES = {
     "fresh": ("repo", "settings", "database", "lock"),
     "refute": ("repo", "settings", "database", "cert"),
     "explain": ("repo", "settings", "database"),
+    "reasons": ("repo", "settings", "database"),
     "find": ("repo", "settings", "database"),
     "plan": ("repo", "settings", "database", "lock"),
 }

@@ -1,8 +1,15 @@
-"""Logs of docs/formats/proof_log.md as data: reading, writing, and leaving out the lines that nothing rests on."""
+"""Logs of docs/formats/proof_log.md: their lines as they are written, and leaving out the lines that nothing rests on."""
 import re
 from dataclasses import dataclass, field
+from typing import Iterator
 
-NUMBER = re.compile(r"-?[1-9][0-9]{0,19}|0")
+NUMBER, ID = rb"(?:0|[1-9][0-9]{0,19})", rb"[1-9][0-9]{0,19}"
+HEAD = re.compile(rb"p 1 (N) (N) (N)".replace(b"N", NUMBER))
+# Each kind of line; its id, and the ids of its chain.
+LINE = re.compile(
+    rb"l (?P<l>N) (?:-?I )*0 (?P<of_l>(?:I )+)0|o (?P<o>N) N (?P<of_o>(?:I )+)0|z (?P<z>N) N|u (?P<of_u>(?:I )+)0|[se]"
+    .replace(b"N", NUMBER).replace(b"I", ID)
+)
 
 
 class NoLog(ValueError):
@@ -45,73 +52,83 @@ class Log:
         return "p 1 {} {} {}\n".format(*self.counts) + "".join(line.text() for line in self.lines)
 
 
-def list_of(words: list[int]) -> list[int]:
-    """Numbers up to the first 0, which are taken away from the front."""
-    place = words.index(0)
-    found = words[:place]
-    del words[:place + 1]
-    return found
+@dataclass
+class Kept:
+    """What is left of a log, how many of its learnt clauses these are, and how many ids stand in its chains."""
+
+    text: bytes
+    learnt: int
+    of_learnt: int
+    ids: int
 
 
-def line_of(text: str) -> Line:
-    """The line of a text; `ValueError` where it is none."""
-    kind, *rest = text.split(" ")
-    if kind not in ("l", "z", "o", "u", "s", "e") or not all(map(NUMBER.fullmatch, rest)):
-        raise ValueError("no line of a log")
-    words = list(map(int, rest))
-    line = Line(kind)
-    if kind in "lzo":
-        line.id = words.pop(0)
-    if kind == "l":
-        line.literals = list_of(words)
-    if kind in "zo":
-        line.bit = words.pop(0)
-    if kind in "lou":
-        line.chain = list_of(words)
-    if words or min([line.id, line.bit, *line.chain]) < 0 or (kind in "lou" and not line.chain):
-        raise ValueError("no line of a log")
-    return line
+def parts_of(line: bytes, number: int) -> tuple[int, list[int]]:
+    """The id of a line, or 0, and its chain; `NoLog` where it is no line."""
+    found = LINE.fullmatch(line)
+    if found is None:
+        raise NoLog(f"line {number} is no line of a log")
+    chain = found["of_l"] or found["of_o"] or found["of_u"] or b""
+    return int(found["l"] or found["o"] or found["z"] or 0), list(map(int, chain.split()))
 
 
-def read(text: str) -> Log:
-    """The log of a text, whose ids have to go on without a gap; `NoLog` with the number of the first line that is wrong."""
-    head, *rest = text.split("\n")
-    found = re.fullmatch(r"p 1 (\d{1,20}) (\d{1,20}) (\d{1,20})", head)
-    if not found or not rest or rest.pop() != "":
-        raise NoLog("line 1 is no `p` line" if not found else "the last line has no end")
-    counts = (int(found[1]), int(found[2]), int(found[3]))
-    lines, known = [], counts[1]
-    for number, line_text in enumerate(rest, 2):
-        try:
-            line = line_of(line_text)
-        except (ValueError, IndexError) as fault:
-            raise NoLog(f"line {number} is no line of a log") from fault
-        if any(not 0 < each <= known for each in line.chain):
-            raise NoLog(f"line {number} has an id that is not known before it")
-        if line.kind in "lzo":
-            known += 1
-            if line.id != known:
-                raise NoLog(f"line {number} has the id {line.id}, and {known} is next")
-        lines.append(line)
-    return Log(counts, lines)
+def read(data: bytes) -> tuple[int, list[bytes], list[int]]:
+    """How many clauses there are, the lines behind the first, and for each clause that these state the place of its line.
+
+    `NoLog` with the number of the first line that is wrong: ids have to go on without a gap, and to be known where chains name them."""
+    head, *lines = data.split(b"\n")
+    found = HEAD.fullmatch(head)
+    if not found or not lines or lines.pop() != b"":
+        raise NoLog("the last line has no end" if found else "line 1 is no `p` line")
+    first, stated = int(found[2]), []
+    for place, line in enumerate(lines):
+        number, chain = parts_of(line, place + 2)
+        known = first + len(stated)
+        if chain and max(chain) > known:
+            raise NoLog(f"line {place + 2} has an id that is not known before it")
+        if line[0] in b"lzo":
+            if number != known + 1:
+                raise NoLog(f"line {place + 2} has the id {number}, and {known + 1} is next")
+            stated.append(place)
+    return first, lines, stated
 
 
-def trimmed(log: Log) -> Log:
-    """The log without the learnt lines that no line `o` or `u` rests on, with ids anew. A spent log stays: each of its lines counts."""
-    if any(line.kind == "s" for line in log.lines):
-        return log
-    needed: set[int] = set()
-    for line in reversed(log.lines):
-        if line.kind in "ou" or line.id in needed:
-            needed.update(line.chain)
-    first = log.counts[1]
-    anew: dict[int, int] = {}
-    kept = []
-    for line in log.lines:
-        if line.kind == "l" and line.id not in needed:
-            continue
-        chain = [anew.get(each, each) for each in line.chain]
-        if line.kind in "lzo":
-            anew[line.id] = first + len(anew) + 1
-        kept.append(Line(line.kind, anew.get(line.id, 0), line.literals, line.bit, chain))
-    return Log(log.counts, kept)
+def needed_of(first: int, lines: list[bytes], stated: list[int]) -> bytearray:
+    """For each line whether an `o` or `u` rests on it, or it is none that may be left out: the last lines first."""
+    needed = bytearray(line[0] not in b"l" for line in lines)
+    for place in range(len(lines) - 1, -1, -1):
+        if needed[place]:
+            for each in parts_of(lines[place], place + 2)[1]:
+                if each > first:
+                    needed[stated[each - first - 1]] = 1
+    return needed
+
+
+def anew(first: int, lines: list[bytes], needed: bytearray) -> Iterator[tuple[bytes, int]]:
+    """The lines that are kept, with ids that go on without a gap, and how many ids are in the chain of each."""
+    numbers: list[int] = []  # the new id of each stated clause
+    next_id = first + 1
+    for place, line in enumerate(lines):
+        if needed[place]:
+            number, chain = parts_of(line, place + 2)
+            words = [str(each if each <= first else numbers[each - first - 1]).encode() for each in chain]
+            front = line[:len(line) - sum(len(str(each)) + 1 for each in chain) - 1] if chain else line
+            if number:
+                kind, _, rest = front.split(b" ", 2)
+                front = b"%c %d %s" % (kind[0], next_id, rest)
+            yield (b"%s%s 0" % (front, b" ".join(words)) if chain else front) + b"\n", len(chain)
+        if line[0] in b"lzo":
+            numbers.append(next_id)
+            next_id += needed[place]
+
+
+def trimmed(data: bytes) -> Kept:
+    """A log without the learnt lines that no line `o` or `u` rests on. A spent log stays: each of its lines counts."""
+    first, lines, stated = read(data)
+    is_spent = any(line == b"s" for line in lines)
+    needed = bytearray(b"\1") * len(lines) if is_spent else needed_of(first, lines, stated)
+    learnt = [needed[place] for place in stated if lines[place][0] in b"l"]
+    texts, ids = [data[:data.index(b"\n") + 1]], 0
+    for text, count in anew(first, lines, needed):
+        texts.append(text)
+        ids += count
+    return Kept(b"".join(texts), sum(learnt), len(learnt), ids)

@@ -33,7 +33,7 @@ def read_binary(data: bytes) -> list[Step]:
         kind = data[place]
         place += 1
         if kind not in b"ad":
-            raise NoProof(f"byte {place}: no step of binary DRAT")
+            raise NoProof(f"byte {place}: no step of binary DRAT (binary LRAT is not read: let the solver write it as text)")
         literals = []
         while True:
             number, shift = 0, 0

@@ -1,13 +1,14 @@
-"""The reasons that `explain` gives, with what stands behind each: the text and place of a directive, and the causes that show.
+"""The reasons that `explain` and `reasons` give, with what stands behind each: the text and place of a directive, the causes that
+show, and of `reasons` the difference to the graph that is valid without it.
 
 Reads what the program said, and the files of the run; the program alone decides that there is no graph.
 """
 import json
 import re
 from dataclasses import asdict, dataclass, field
-from typing import Any
+from typing import Any, Optional
 
-from . import origins, spec_parts
+from . import answers, origins, spec_parts, without
 from .catalog import Catalog, few
 from .reason_causes import Cause, causes
 from .recipe_rows import Directive
@@ -30,6 +31,9 @@ class Reason:
     origin: str = ""
     causes: list[Cause] = field(default_factory=list)
     needs: list[str] = field(default_factory=list)
+    graph: Optional[list[dict[str, Any]]] = None  # the nodes of a graph that is valid for all others, where one was said
+    specs: list[list[spec_parts.Part]] = field(default_factory=list)  # what it asks, or forbids
+    others: str = ""  # the difference between that and the graph
 
     def lines(self) -> list[str]:
         """The reason for a person."""
@@ -43,13 +47,15 @@ class Reason:
         for each in self.causes:
             there = f": there is {few(map(shown, each.near))}" if each.near else ""
             found.append(f"      {each.kind}: {each.text}{there}")
+        found += [f"      {self.others}"] if self.others else []
         return found
 
     def data(self) -> dict[str, Any]:
         """The reason for a machine, without what is empty."""
         whole = asdict(self)
-        del whole["needs"]
-        return {key: value for key, value in whole.items() if value != "" and not (key == "line" and not self.file)}
+        for key in ("needs", "specs", "others"):
+            del whole[key]
+        return {key: value for key, value in whole.items() if value not in ("", None) and not (key == "line" and not self.file)}
 
 
 def needed(row: Directive, catalog: Catalog) -> list[str]:
@@ -87,6 +93,8 @@ def of_directive(package: str, word: str, number: int, catalog: Catalog) -> Reas
         found.msg = str(row.keywords.get("msg") or "")
         found.causes = directive_causes(row, package, catalog)
         found.needs = needed(row, catalog) if word == "depends_on" else []
+        texts = row.values if word == "requires" else [row.first()]
+        found.specs = [[own(part, package) for part in spec] for text in texts for spec in spec_parts.parts(str(text))]
     entry = origins.entry(catalog.repo, package, number)
     if entry:
         found.origin = f"{entry.get('file', '')}:{entry.get('line', '')}".strip(":")
@@ -103,23 +111,40 @@ def of_setting(package: str, place: int, catalog: Catalog) -> Reason:
     if isinstance(items, list) and place < len(items):
         found.text = f"the settings require {json.dumps(items[place])}"
         found.msg = str(items[place].get("message", "")) if isinstance(items[place], dict) else ""
+        found.specs = [[own(part, package) for part in spec] for text in required_texts(items[place]) for spec in spec_parts.parts(text)]
     return found
 
 
+def required_texts(item: Any) -> list[str]:
+    """The specs of an item of `require`: one, or those of an object."""
+    if not isinstance(item, dict):
+        return [str(item)]
+    lists = [[item["spec"]] if "spec" in item else [], *(item[key] for key in ("one_of", "any_of") if isinstance(item.get(key), list))]
+    return [str(text) for texts in lists for text in texts]
+
+
 def read(said: str, catalog: Catalog) -> list[Reason]:
-    """The reasons that `explain` said, in its order."""
+    """The reasons that `explain` or `reasons` said, in its order."""
     found: list[Reason] = []
     for line in said.splitlines():
+        if line.startswith("  ") and found:
+            node = answers.node(line[2:])
+            found[-1].graph = [*(found[-1].graph or []), *([node] if node else [])]
+            continue
         each = LINE.fullmatch(line)
         if each and each[1]:
             specs = spec_parts.parts(each[2])
             reason = Reason("root", int(each[1]), each[2])
             reason.causes = [cause for spec in specs for part in spec for cause in causes(part, catalog)]
+            reason.specs = specs
             found.append(reason)
         elif each and each[4] == "require":
             found.append(of_setting(each[3], int(each[5]), catalog))
         elif each:
             found.append(of_directive(each[3], each[4], int(each[5]), catalog))
+    for one in found:
+        if one.graph is not None and len(found) > 1:
+            one.others = without.sentence(one.kind, one.package, one.specs, one.graph, catalog)
     return found
 
 

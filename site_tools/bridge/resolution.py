@@ -59,38 +59,39 @@ class Clauses:
         return None
 
     def propagate(self) -> Optional[int]:
-        """Assigns what follows; the slot of a clause that is false, where there is one."""
-        while self.head < len(self.trail):
-            false = -self.trail[self.head]
+        """Assigns what follows; the slot of a clause that is false, where there is one. A clause that is not true watches another literal
+        in the place of one that became false, where it has one that is not false."""
+        value, watching, trail = self.value, self.watching, self.trail
+        while self.head < len(trail):
+            false = -trail[self.head]
             self.head += 1
-            slots, kept = self.watching[false], []
-            self.watching[false] = kept
+            slots, kept = watching[false], []
+            watching[false] = kept
             for number, slot in enumerate(slots):
-                if not self.is_live[slot] or not self.moved(slot, false):
+                if not self.is_live[slot]:
                     kept.append(slot)
-                    first = self.lits[slot][0]
-                    if not self.is_live[slot] or self.value[first] > 0:
-                        continue
-                    if self.value[first] < 0:
+                    continue
+                clause = self.lits[slot]
+                first = clause[0]
+                if first == false:
+                    first = clause[0] = clause[1]
+                    clause[1] = false
+                if value[first] > 0:
+                    kept.append(slot)
+                    continue
+                for place in range(2, len(clause)):
+                    literal = clause[place]
+                    if value[literal] >= 0:
+                        clause[1], clause[place] = literal, false
+                        watching[literal].append(slot)
+                        break
+                else:
+                    kept.append(slot)
+                    if value[first] < 0:
                         kept.extend(slots[number + 1:])
                         return slot
                     self.assign(first, slot)
         return None
-
-    def moved(self, slot: int, false: int) -> bool:
-        """Has a clause watch another literal than one that became false; not where its other watched one is true or alone left."""
-        clause = self.lits[slot]
-        if clause[0] == false:
-            clause[0], clause[1] = clause[1], false
-        if self.value[clause[0]] > 0:
-            return False
-        for place in range(2, len(clause)):
-            literal = clause[place]
-            if self.value[literal] >= 0:
-                clause[1], clause[place] = literal, false
-                self.watching[literal].append(slot)
-                return True
-        return False
 
     def assume_none(self, literals: Iterable[int]) -> Optional[int]:
         """Assumes that all literals of a clause are false; the slot of the clause that made one of them true before, if any did."""

@@ -70,7 +70,7 @@ def answer(program: str, wrong: str, words: list[str]) -> dict[str, Any]:
         if fault:
             found["fault"] = fault
     run_words = words_of(words)
-    if status == 1 and run_words.command == "explain":
+    if (status, run_words.command) in ((1, "explain"), (1, "reasons"), (3, "reasons")):
         catalog = Catalog(run_words.repo, run_words.settings, run_words.database)
         rows = reasons.read(out, catalog)
         found["reasons"] = [each.data() for each in rows]

@@ -1,9 +1,10 @@
 """`show_reasons`: why a request is unsatisfiable, in words.
 
-Asks the program's `explain`, and shows of each root and directive that it names the text, the file and line, the message,
+Asks the program's `reasons`, and shows of each root and directive that it names the text, the file and line, the message,
 and the class of reason where one shows: no such version, variant, value, compiler, system, target or package, with what there
-is; a cycle. Where a root stands alone and all that it asks for is there, it asks the program again with less, and shows
-what cannot be together. Of two providers of one virtual it says that they are rivals.
+is; a cycle. None of them can be left out: of each it says what a graph has that is valid for all others. Where a root stands
+alone and all that it asks for is there, it asks the program again with less, and shows what cannot be together. Of two
+providers of one virtual it says that they are rivals.
 """
 import argparse
 import sys
@@ -21,7 +22,7 @@ from .shown import shown
 
 MOST_RUNS = 24
 MOST_SECONDS = 20.0
-Asks = Callable[[str], program.Said]  # what `explain` says of a spec
+Asks = Callable[[str], program.Said]  # what `reasons` says of a spec
 
 
 def less_of(text: str) -> list[str]:
@@ -96,6 +97,8 @@ def variant_lines(part: spec_parts.Part, catalog: Catalog) -> list[str]:
 def lines_of(found: list[Reason], asks: Optional[Asks], catalog: Catalog) -> list[str]:
     """All reasons for a person."""
     head = "unsatisfiable: no graph is valid for " + ("this" if len(found) == 1 else f"these {len(found)} together")
+    if len(found) > 1 and all(each.graph is not None for each in found):
+        head += "; without any one of them there is one"
     roots = [spec[0] for each in found if each.kind == "root" for spec in spec_parts.parts(each.text)]
     defined = [] if len(found) == 1 else [line for part in roots for line in variant_lines(part, catalog)]
     closing = [*(["variants that are asked for, and defined by"] if defined else []), *(f"    {line}" for line in defined)]
@@ -106,7 +109,8 @@ def lines_of(found: list[Reason], asks: Optional[Asks], catalog: Catalog) -> lis
 def arguments(words: Optional[list[str]]) -> argparse.Namespace:
     """The words of the command line."""
     parser = argparse.ArgumentParser(prog="show_reasons", description=__doc__)
-    parser.add_argument("--said", type=Path, metavar="FILE", help="what `explain` said before, in place of asking it")
+    parser.add_argument("--said", type=Path, metavar="FILE", help="what `reasons` or `explain` said before, in place of asking it")
+    parser.add_argument("--quick", action="store_true", help="ask `explain`, which takes less time and may name more than is needed")
     parser.add_argument("repo", metavar="REPO")
     parser.add_argument("settings", metavar="SETTINGS")
     parser.add_argument("database", metavar="DATABASE")
@@ -118,20 +122,21 @@ def arguments(words: Optional[list[str]]) -> argparse.Namespace:
 
 
 def main(words: Optional[list[str]] = None) -> int:
-    """Shows the reasons, and ends with the status of `explain`: 0 satisfiable, 1 unsatisfiable, else its refusal's."""
+    """Shows the reasons, and ends with the status of `reasons`: 0 satisfiable, 1 unsatisfiable, else its refusal's."""
     given = arguments(words)
     inputs = [given.repo, given.settings, given.database]
+    verb = "explain" if given.quick else "reasons"
     if given.said:
         said = program.Said(1, given.said.read_text("utf-8"), "")
         asks = None
     else:
         file = program.path()
-        said = program.run(["explain", *inputs, *given.spec], file)
-        asks = lambda text: program.run(["explain", *inputs, text], file)  # noqa: E731
+        said = program.run([verb, *inputs, *given.spec], file)
+        asks = lambda text: program.run([verb, *inputs, text], file)  # noqa: E731
     if said.status != 1:
         fault = read_fault(said.err)
         print(said.out or shown(said.err.removesuffix("\n")), end="" if said.out else "\n")
-        print("".join(f"{line}\n" for line in told(fault, words_of(["explain", *inputs, *given.spec])).lines()) if fault else "", end="")
+        print("".join(f"{line}\n" for line in told(fault, words_of([verb, *inputs, *given.spec])).lines()) if fault else "", end="")
         return said.status
     catalog = Catalog(*inputs)
     print("\n".join(lines_of(reasons.read(said.out, catalog), asks, catalog)))

@@ -19,15 +19,13 @@ def main(words: Optional[list[str]] = None) -> int:
     parser.add_argument("out", metavar="OUT", type=Path, help="the log that is written; it may be LOG")
     given = parser.parse_args(words)
     try:
-        log = proof_logs.read(given.log.read_bytes().decode("ascii"))
-        kept = proof_logs.trimmed(log)
-        given.out.write_text(kept.text(), "ascii")
+        kept = proof_logs.trimmed(given.log.read_bytes())
+        given.out.write_bytes(kept.text)
     except proof_logs.NoLog as fault:
         print(f"trim_log: {given.log}: {fault}", file=sys.stderr)
         return 2
-    except (OSError, ValueError) as fault:
+    except OSError as fault:
         print(f"trim_log: {fault}", file=sys.stderr)
         return 2
-    before, after = (sum(line.kind == "l" for line in each.lines) for each in (log, kept))
-    print(f"{after} of {before} learnt clauses stay")
+    print(f"{kept.learnt} of {kept.of_learnt} learnt clauses stay")
     return 0

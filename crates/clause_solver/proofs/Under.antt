@@ -32,13 +32,13 @@ heap-put heap places waiting activities phases place var o p v =
       same_phases = o.same_phases ∙ sym n;
     }
 
--- all variables wait
-pub heap-whole : (heap places : List ℕ) (vars activities phases : ℕ) → length heap ≡ vars → AllUnder vars heap → length places ≡ vars
-    → AllUnder vars places → activities ≡ vars → phases ≡ vars → IsHeap heap places vars activities phases
-heap-whole heap places vars activities phases n h m p a f = record {
+-- none waits
+pub heap-untouched : (heap places : List ℕ) (vars activities phases : ℕ) → length heap ≡ vars → AllUnder vars heap → length places ≡ vars
+    → AllUnder vars places → activities ≡ vars → phases ≡ vars → IsHeap heap places 0 activities phases
+heap-untouched heap places vars activities phases n h m p a f = record {
   heap_under = subst (λ k. AllUnder k heap) (sym n) h;
   places_under = subst (λ k. AllUnder k places) (sym n) p;
-  waiting_within = omega (arith, n);
+  waiting_within = omega arith;
   same_places = m ∙ sym n;
   same_activities = a ∙ sym n;
   same_phases = f ∙ sym n;

@@ -7,6 +7,6 @@ pub record HeapValue : Type 0 where
   pub waiting : ℕ
   pub phases : List Bool
 
--- all variables wait, and none had a value
-abbrev pub whole : ℕ → HeapValue
-whole vars = record { vars = vars; waiting = vars; phases = replicate vars false }
+-- none waits, and none had a value
+abbrev pub untouched : ℕ → HeapValue
+untouched vars = record { vars = vars; waiting = 0; phases = replicate vars false }

@@ -31,6 +31,34 @@ fn active(watch: &Watch, heap: &mut VariableHeap) -> Option<usize>
     None
 }
 
+/// The lowest variable without value, from the heap's low one on.
+fn lowest(watch: &Watch, heap: &mut VariableHeap) -> Option<usize>
+    ensures in_range { IfSome result (λ x. x < watch.now.vars) }
+    ensures free { IfSome result (λ x. has_var (lits_of watch.now.placed) x ≡ false) }
+{
+    for x in heap.low()..watch.vars() {
+        match watch.value(Var(x as u64)) {
+            Some(_) => {}
+            None => {
+                heap.start_at(x);
+                return Some(x);
+            }
+        }
+    }
+    None
+}
+
+/// The most active variable of those that wait, and else the lowest one, that has no value.
+fn soonest(watch: &Watch, heap: &mut VariableHeap) -> Option<usize>
+    ensures in_range { IfSome result (λ x. x < watch.now.vars) }
+    ensures free { IfSome result (λ x. has_var (lits_of watch.now.placed) x ≡ false) }
+{
+    match active(watch, heap) {
+        Some(x) => Some(x),
+        None => lowest(watch, heap),
+    }
+}
+
 /// The negation of the first of some literals that has no value.
 fn negated_first(watch: &Watch, first: &[Lit]) -> Option<Lit>
     ensures in_range { IfSome result (λ l. var_of l < watch.now.vars) }
@@ -61,7 +89,7 @@ pub fn choose(watch: &Watch, heap: &mut VariableHeap, first: &[Lit]) -> Option<L
     if let Some(lit) = negated_first(watch, first) {
         return Some(lit);
     }
-    if let Some(x) = active(watch, heap) {
+    if let Some(x) = soonest(watch, heap) {
         let positive = heap.phase(x);
         return Some(Lit {
             var: Var(x as u64),
@@ -163,8 +191,8 @@ pub fn prefer_false(watch: &mut Watch, heap: &mut VariableHeap, lits: &[Lit])
     backtrack(watch, heap, 0);
     for lit in lits {
         let var = lit.var.0 as usize;
-        heap.reinsert(var, !lit.positive);
         heap.bump(var);
+        heap.reinsert(var, !lit.positive);
     }
 }
 

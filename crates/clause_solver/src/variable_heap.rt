@@ -1,7 +1,7 @@
-//! A binary heap of the variables that wait, by activity.
+//! A binary heap of the variables that wait, by activity. Those that were never bumped need no place in it.
 ghost use Rattle.std.specs.Prelude.{◌≡◌, ◌+◌, ◌<◌, ◌≤◌, length, false, slice_set, slice_index_or, IfOk, IfSome, IfNone};
 ghost use Rattle.clause_solver.specs.Heaps.{AllUnder};
-ghost use Rattle.clause_solver.specs.HeapValues.{whole};
+ghost use Rattle.clause_solver.specs.HeapValues.{untouched};
 
 use std::alloc::{AllocError, Global};
 use std::marker::Model;
@@ -16,6 +16,9 @@ const SHIFT: u32 = 40;
 const FIRST_INCREMENT: u64 = 1 << 20;
 
 /// Variables that wait for a value, the most active one first, and the last value of each.
+///
+/// Only variables that were bumped wait here. The others go by their numbers, so they are found
+/// without it, from `low` on.
 #[derive(Drop)]
 pub struct VariableHeap {
     /// All variables: first those that wait, as a binary heap, then the others.
@@ -30,6 +33,8 @@ pub struct VariableHeap {
     increment: u64,
     /// The last value of each variable, and false before the first.
     phases: Vec<bool>,
+    /// No variable below it is without value unless it waits. (Not proved, and nothing rests on it.)
+    low: usize,
 }
 
 impl Model for VariableHeap {
@@ -46,9 +51,9 @@ impl Model for VariableHeap {
 }
 
 impl VariableHeap {
-    /// So many variables, all of which wait, none of them bumped.
+    /// So many variables, none of which waits, since none was bumped.
     pub fn new(alloc: Global, vars: usize) -> Result<VariableHeap, AllocError>
-        ensures { IfOk result (λ o. o ≡ whole vars) }
+        ensures { IfOk result (λ o. o ≡ untouched vars) }
     {
         let heap = numbers(alloc, vars)?;
         let places = numbers(alloc, vars)?;
@@ -57,10 +62,11 @@ impl VariableHeap {
         Ok(VariableHeap {
             heap,
             places,
-            waiting: vars,
+            waiting: 0,
             activities,
             increment: FIRST_INCREMENT,
             phases,
+            low: 0,
         })
     }
 
@@ -178,7 +184,8 @@ impl VariableHeap {
         Some(first)
     }
 
-    /// A variable waits again, and had this value. One that is not there is passed over.
+    /// A variable had this value, and waits again if it was ever bumped. One that is not there is
+    /// passed over.
     pub fn reinsert(&mut self, var: usize, value: bool)
         ensures vars { self.new.vars ≡ self.old.vars }
         ensures waiting { self.old.waiting ≤ self.new.waiting }
@@ -188,6 +195,10 @@ impl VariableHeap {
             return;
         }
         self.phases[var] = value;
+        if self.activities[var] == 0 {
+            self.low = self.low.min(var);
+            return;
+        }
         let place = self.place_of(var);
         let end = self.waiting;
         if place < end {
@@ -232,6 +243,18 @@ impl VariableHeap {
             *activity >>= SHIFT;
         }
         self.increment = (self.increment >> SHIFT).max(1);
+    }
+
+    /// From where on variables that were never bumped are looked for.
+    pub fn low(&self) -> usize {
+        self.low
+    }
+
+    /// They are looked for from this one on.
+    pub fn start_at(&mut self, var: usize)
+        ensures { self.new ≡ self.old }
+    {
+        self.low = var;
     }
 
     /// The last value of a variable; false before the first, and for one that is not there.

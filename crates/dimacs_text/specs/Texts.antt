@@ -9,11 +9,11 @@ use Rattle.dimacs_text.specs.Labels.{label_lines}
 use Rattle.dimacs_text.specs.Sums.{number_lines}
 use Rattle.dimacs_text.specs.Clauses.{size_line, clause_lines}
 
--- comments on choices, demands and numbers, and then the clauses
+-- comments on choices, demands, numbers and bits, and then the clauses
 unfoldable pub dimacs_text : Problem → Clauses → Spelling → Table → List ℕ
 dimacs_text problem clauses bits table =
     table_text table
     ++ (label_lines problem 1 clauses.entries
-    ++ (number_lines 1 bits.tops bits.lits
+    ++ (number_lines 1 0 bits.tops bits.lits
     ++ (size_line clauses
     ++ clause_lines clauses.entries)))

@@ -50,7 +50,7 @@ fn report<E: Sink>(alloc: Global, err: &mut E, stop: &Stop) -> Status
 }
 
 /// Says the encoding of the problem that the words `REPO SETTINGS DATABASE SPEC..` name, as DIMACS with a comment for each choice of
-/// the table, each clause of a demand and each number.
+/// the table, each clause of a demand, each number and each of its bits.
 ///
 /// `out` gets the text; `err` gets one line where a run stops before its end.
 pub fn run<R: Threads + Sync, D: Desk, O: Sink, E: Sink>(

@@ -109,7 +109,7 @@ clashes-above n f (l ∷ b) h = go (opposed f l) (clashes-above n f b h.1)
     go true ih = (h.0, ih)
     go false ih = ih
 
-clashes-clause : (f : ℕ → Option Bool) (b : List Lit) → IsClause b → IsClause (clashes f b)
+pub clashes-clause : (f : ℕ → Option Bool) (b : List Lit) → IsClause b → IsClause (clashes f b)
 clashes-clause f [] i = tt
 clashes-clause f (l ∷ b) i = go (opposed f l) (clashes-clause f b i.1)
   where

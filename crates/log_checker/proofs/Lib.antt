@@ -4,7 +4,8 @@ pub mod Marks
 pub mod Values
 pub mod Overlays
 pub mod Clashes
-pub mod OnlyClash
+pub mod Parts
+pub mod Reused
 pub mod Chains
 pub mod Faults
 pub mod Accepted

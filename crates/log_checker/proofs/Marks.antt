@@ -11,7 +11,7 @@ use Rattle.std.proofs.lemmas.List.{drop_more, length-set}
 use Rattle.log_checker.specs.Signs.{marked, sign_above, sign_of, SignMap, with_sign, with_touched, is_clear, are_clear, is_listed, AreTouched, IsAbove}
 use Rattle.log_checker.proofs.Places.{get-set-same, get-set-other}
 
-is_eq-nat_cmp : (a b : ℕ) → is_eq (nat_cmp a b) ≡ eqb a b
+pub is_eq-nat_cmp : (a b : ℕ) → is_eq (nat_cmp a b) ≡ eqb a b
 is_eq-nat_cmp a b = elim (eqb_tells a b) [
   | inl h ↦ ap (λ t. is_eq (cond t Less (cond (eqb a b) Equal Greater))) (le-ltb a b (omega (arith, h.1)))
       ∙ ap (λ t. is_eq (cond t Equal Greater)) h.0 ∙ sym h.0
@@ -22,7 +22,7 @@ is_eq-nat_cmp a b = elim (eqb_tells a b) [
     apart true = refl
     apart false = refl
 
-cond-if : {T : Type 0} (b : Bool) (x y : T) → cond b x y ≡ if b then x else y
+pub cond-if : {T : Type 0} (b : Bool) (x y : T) → cond b x y ≡ if b then x else y
 cond-if true x y = refl
 cond-if false x y = refl
 
@@ -52,14 +52,14 @@ above-put marks m n k w h u x = ap (marked (slice_get marks x))
     ]
 
 -- which variables were touched
-listed-push : (xs : List ℕ) (k x : ℕ) → is_listed xs x ≡ true → is_listed (xs ++ k ∷ []) x ≡ true
+pub listed-push : (xs : List ℕ) (k x : ℕ) → is_listed xs x ≡ true → is_listed (xs ++ k ∷ []) x ≡ true
 listed-push [] k x h = absurd (false≢true h)
 listed-push (y ∷ ys) k x h = elim (or_cases (eqb y x) (is_listed ys x) h) [
   | inl p ↦ or_left (eqb y x) (is_listed (ys ++ k ∷ []) x) p
   | inr p ↦ or_right (eqb y x) (is_listed (ys ++ k ∷ []) x) (listed-push ys k x p)
 ]
 
-listed-last : (xs : List ℕ) (k x : ℕ) → eqb k x ≡ true → is_listed (xs ++ k ∷ []) x ≡ true
+pub listed-last : (xs : List ℕ) (k x : ℕ) → eqb k x ≡ true → is_listed (xs ++ k ∷ []) x ≡ true
 listed-last [] k x h = or_left (eqb k x) false h
 listed-last (y ∷ ys) k x h = or_right (eqb y x) (is_listed (ys ++ k ∷ []) x) (listed-last ys k x h)
 

@@ -1,14 +1,16 @@
-//! The check of a chain, by the signs of variables: its time is that of the clauses of the chain.
+//! The check of a chain, by the signs of variables. A clause that is used again is looked at where pivots stood since.
 ghost use Rattle.std.specs.Prelude.{◌≡◌, ◌↔◌, ℕ, length, IfOk, OnOk, None, IsTrue};
 ghost use Rattle.std.specs.Option.{option_map};
 ghost use Rattle.proof_log.specs.Resolution.{IdsIn};
-ghost use Rattle.clause_store.specs.Lits.{var_of};
+ghost use Rattle.clause_store.specs.Lits.{var_of, IsClause};
 ghost use Rattle.log_checker.specs.Steps.{chain_why, is_bit_value};
 ghost use Rattle.log_checker.specs.Signs.{sign_of, opposed, clashes, only_one, overlay, strip};
+ghost use Rattle.log_checker.specs.Uses.{is_other, only_pivot, IsEnough, IsResolved, IsKeptOf};
 
 use crate::known::{Known, lits_of};
 use crate::signs::Signs;
 use crate::step::Why;
+use crate::uses::{Uses, literals_of};
 use clause_store::Lit;
 use std::alloc::AllocError;
 
@@ -32,14 +34,24 @@ fn is_met(signs: &Signs, lit: Lit) -> bool
     }
 }
 
-/// The only literal of a clause whose variable has the opposite sign.
+/// Whether another variable is the pivot already.
+fn is_other(pivot: Option<Lit>, lit: Lit) -> bool
+    ensures { result ≡ is_other pivot lit }
+{
+    match pivot {
+        Some(pivot) => pivot.var.0 != lit.var.0,
+        None => false,
+    }
+}
+
+/// The only literal of a clause whose variable has the opposite sign; it may stand there twice.
 fn find_pivot(signs: &Signs, lits: &[Lit]) -> Result<Lit, Why>
-    ensures { result ≡ only_one (clashes (sign_of signs.now) lits.now) }
+    ensures { result ≡ only_pivot (sign_of signs.now) None lits.now }
 {
     let mut pivot = None;
     for lit in lits {
         if is_opposed(signs, *lit) {
-            if pivot.is_some() {
+            if is_other(pivot, *lit) {
                 return Err(Why::TwoPivots);
             }
             pivot = Some(*lit);
@@ -71,6 +83,46 @@ fn are_within(signs: &mut Signs, lits: &[Lit]) -> bool
     signs.is_empty()
 }
 
+/// Resolves with a clause of which it is enough to look at some literals, and gives the pivot.
+fn resolve(signs: &mut Signs, _lits: &[Lit], parts: &[Lit]) -> Result<Result<Lit, Why>, AllocError>
+    requires in_order { IsClause _lits.now }
+    requires enough { IsEnough (sign_of signs.old) _lits.now parts.now }
+    ensures pivot { IfOk result (λ pivot. pivot ≡ only_one (clashes (sign_of signs.old) _lits.now)) }
+    ensures signs { IfOk result (λ pivot. IfOk pivot (λ p. IsResolved (sign_of signs.old) (sign_of signs.new)
+        _lits.now p)) }
+{
+    match find_pivot(signs, parts) {
+        Ok(pivot) => {
+            put_all(signs, parts)?;
+            signs.remove(pivot.var.0);
+            Ok(Ok(pivot))
+        }
+        Err(why) => Ok(Err(why)),
+    }
+}
+
+/// Resolves with a known clause, and gives the pivot.
+fn resolve_with(
+    signs: &mut Signs,
+    uses: &Uses,
+    id: u64,
+    lits: &[Lit],
+) -> Result<Result<Lit, Why>, AllocError>
+    requires in_order { IsClause lits.now }
+    requires kept { IsKeptOf uses.now (sign_of signs.old) id lits.now }
+    ensures pivot { IfOk result (λ pivot. pivot ≡ only_one (clashes (sign_of signs.old) lits.now)) }
+    ensures signs { IfOk result (λ pivot. IfOk pivot (λ p. IsResolved (sign_of signs.old) (sign_of signs.new)
+        lits.now p)) }
+{
+    match uses.since(id, lits.len()) {
+        Some(vars) => {
+            let parts = literals_of(signs.alloc(), lits, vars)?;
+            resolve(signs, lits, parts.as_slice())
+        }
+        None => resolve(signs, lits, lits),
+    }
+}
+
 /// What is wrong with a chain of known ids. Whatever signs there are, they are lost.
 pub fn check_chain(
     signs: &mut Signs,
@@ -84,15 +136,13 @@ pub fn check_chain(
     let Some((first, rest)) = chain.split_first() else {
         return Ok(Some(Why::NotContained));
     };
+    let mut uses = Uses::new(signs.alloc());
     signs.clear();
     put_all(signs, lits_of(known, *first))?;
     for id in rest {
         let lits = lits_of(known, *id);
-        match find_pivot(signs, lits) {
-            Ok(pivot) => {
-                put_all(signs, lits)?;
-                signs.remove(pivot.var.0);
-            }
+        match resolve_with(signs, &uses, *id, lits)? {
+            Ok(pivot) => uses.note(*id, lits.len(), pivot)?,
             Err(why) => return Ok(Some(why)),
         }
     }

@@ -20,6 +20,7 @@ mod signs;
 mod step;
 mod store;
 mod theorems;
+mod uses;
 
 pub use checker::Checker;
 pub use gate::{Gate, OpenGate};

@@ -10,6 +10,7 @@ use std::marker::Model;
 /// chain costs what its clauses are, however many variables there are.
 #[derive(Drop)]
 pub struct Signs {
+    alloc: Global,
     // The signs of the input's variables.
     marks: Vec<Option<bool>>,
     // Those of all others: a stated clause may have a variable of any number.
@@ -36,10 +37,16 @@ impl Signs {
     {
         let marks = vec![in alloc; None; vars]?;
         Ok(Signs {
+            alloc,
             marks,
             above: BTreeMap::new(alloc),
             touched: Vec::new(alloc),
         })
+    }
+
+    /// What the signs are kept with.
+    pub fn alloc(&self) -> Global {
+        self.alloc
     }
 
     pub fn get(&self, var: u64) -> Option<bool>
