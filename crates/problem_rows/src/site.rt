@@ -1,5 +1,6 @@
 //! What a site has, line by line.
 //!
+//! `require NAME CONDITION..` is what the settings require of a package, item by item;
 //! `package NAME` is what the settings say of a package without externals, `external NAME` of one
 //! with an external; `record NAME CHILD:KIND..` is an installed package, whose children are records
 //! above it. NAME may have a version behind `@`, which is 1 without, and then `%gcc`, which is gcc
@@ -9,7 +10,8 @@ use crate::nodes::compiler_of;
 use graph_core::{Compiler, Kinds};
 use plain_data::{List, Word};
 use reuse_db::{Database, DbFault, Record, canonical};
-use site_settings::{ExternalEntry, PackageEntry, Settings};
+use site_settings::{ExternalEntry, PackageEntry, RequireEntry, Settings};
+use spec_grammar::{Condition, read_condition};
 use spec_hash::{Hash, hash_text};
 use std::alloc::{AllocError, Global};
 use version_order::Version;
@@ -55,11 +57,37 @@ fn package_of(alloc: Global, name: &str, is_there: bool) -> Result<PackageEntry,
     })
 }
 
+fn item_of(alloc: Global, text: &str) -> Result<RequireEntry, AllocError> {
+    let mut specs = List::new(alloc);
+    match read_condition(alloc, text) {
+        Ok(spec) => specs.push(spec)?,
+        Err(_) => return Err(AllocError),
+    }
+    Ok(RequireEntry {
+        specs,
+        one_of: false,
+        when: Condition {
+            specs: List::new(alloc),
+        },
+    })
+}
+
+fn required_of(alloc: Global, words: &str) -> Result<PackageEntry, AllocError> {
+    let (name, texts) = words.split_once(' ').unwrap_or((words, ""));
+    let mut package = package_of(alloc, name, false)?;
+    for text in texts.split_whitespace() {
+        package.require.push(item_of(alloc, text)?)?;
+    }
+    Ok(package)
+}
+
 fn add_package(alloc: Global, settings: &mut Settings, line: &str) -> Result<(), AllocError> {
     if let Some(name) = line.strip_prefix("package ") {
         settings.packages.push(package_of(alloc, name, false)?)?;
     } else if let Some(name) = line.strip_prefix("external ") {
         settings.packages.push(package_of(alloc, name, true)?)?;
+    } else if let Some(words) = line.strip_prefix("require ") {
+        settings.packages.push(required_of(alloc, words)?)?;
     }
     Ok(())
 }
