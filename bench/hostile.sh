@@ -1,11 +1,13 @@
 #!/usr/bin/env bash
-# Tries the program where machines fail and files are hostile: kills, full disks, little memory, several runs at once, faults of calls of the
-# system, links, pipes and devices, long lists on a small stack, damaged files of each kind, files that are made to stop the importers.
+# Tries the program where machines fail and files are hostile: kills, full disks, little memory, refused allocations, several runs
+# at once, faults of calls of the system, links, pipes and devices, long lists on a small stack, damaged files of each kind, files
+# that are made to stop the importers.
 #
 #   bench/hostile.sh [--program FILE] [OPTION..] [WORD..]
 #
 # Without --program it runs the build of these sources. It needs no kit then where there is one; python3 and strace (apt-get install
-# strace), and for the full disk the right to mount one. With words only the parts whose name has one of them; `--help` has their names.
+# strace), cc for the refused allocations, and for the full disk the right to mount one. With words only the parts whose name has one
+# of them; `--help` has their names.
 # It ends with 1 where something was wrong.
 set -euo pipefail
 

@@ -187,6 +187,10 @@ kind("a compiler's systems")(
 kind("virtuals of the settings")(lambda n: settings(S, {"providers": {"v%d" % i: ["p"] for i in range(n)}}))
 kind("providers of the settings")(lambda n: settings(one([P, 'provides("v")']), {"providers": {"v": ["q%d" % i for i in range(n)] + ["p"]}}))
 kind("packages of the settings")(lambda n: settings(S, {"packages": {"q%d" % i: {"buildable": True} for i in range(n)}}))
+kind("requirements of the settings")(lambda n: settings(S, {"packages": {"p": {"require": ["@:%d" % (i + 1) for i in range(n)]}}}))
+kind("requirements of the settings that refuse")(lambda n: settings(S, {"packages": {"p": {"require": ["@2.%d" % i for i in range(n)]}}}))
+kind("a requirement of one of the settings")(lambda n: settings(S, {"packages": {"p": {"require": [{"one_of": ["@%d" % (i + 1) for i in range(n)]}]}}}))
+kind("packages of which the settings require")(lambda n: settings(S, {"packages": {"q%d" % i: {"require": "@1"} for i in range(n)}}))
 kind("versions of the settings")(lambda n: settings(S, {"packages": {"p": {"versions": ["=1.%d" % i for i in range(n)]}}}))
 kind("externals")(
     lambda n: settings(S, {"packages": {"p": {"buildable": False, "externals": [{"spec": "p@=1", "prefix": "/%d" % i} for i in range(n)]}}}))

@@ -16,6 +16,7 @@ from pathlib import Path
 from typing import Any, Callable, Iterator
 
 from bridge import lock_view, show_fault, show_reasons
+from bridge.fault_lines import read as read_fault
 
 TOOLS = Path(__file__).resolve().parent
 TOP = TOOLS.parent
@@ -173,6 +174,22 @@ def check_json() -> Check:
                 yield name, f"wanted {wanted}, got {missing} and the exit status {done.returncode}"
 
 
+def check_fields() -> Check:
+    """The fields of refusals, blanks of keys and all."""
+    rows = {
+        "bad input: settings: UnknownKey /a b": ["/a b"],
+        "bad input: settings: WrongKind ": [""],
+        "bad input: settings: Spec /packages/a b/externals/0/spec Unsupported 5 Propagation":
+            ["/packages/a b/externals/0/spec", "Unsupported", "5", "Propagation"],
+        "bad input: database: HashDiffers a b": ["a", "b"],
+        "bad input: recipe x: Spec 33 Expected 2": ["33", "Expected", "2"],
+    }
+    for line, wanted in rows.items():
+        fault = read_fault(line)
+        if fault is None or fault.fields() != wanted:
+            yield f"fields of `{line}`", f"wanted {wanted}, got {fault and fault.fields()}"
+
+
 def check_why() -> Check:
     """What `lock_view --why` and `--diff` say of the examples; `--write` keeps what is said now as what is wanted."""
     mpi, site = TOP / "examples" / "mpi", TOP / "examples" / "site"
@@ -197,5 +214,5 @@ def check_why() -> Check:
 
 def check_all() -> Check:
     """All checks of this file."""
-    for check in (check_mistakes, check_json, check_why):
+    for check in (check_mistakes, check_json, check_fields, check_why):
         yield from check()

@@ -96,12 +96,16 @@ class Facts(Conditions):
             condition = self.condition(name, [*when, spec])
             if condition is not None:
                 self.fact("conflict", quoted(name), condition)
-        for row, (specs, is_one_of, when) in enumerate(self.directives(name, "requires")):
+        self.requirements(name, "one_of", "any_of", self.directives(name, "requires"))
+        self.requirements(name, "required_one", "required_any", self.problem.settings.required(name))
+
+    def requirements(self, name, just_one, some, rows):
+        for row, (specs, is_one_of, when) in enumerate(rows):
             condition = self.condition(name, when)
             if condition is None:
                 continue
-            requirement = self.number(("requires", name, row))
-            self.fact("one_of" if is_one_of else "any_of", quoted(name), condition, requirement)
+            requirement = self.number((some, name, row))
+            self.fact(just_one if is_one_of else some, quoted(name), condition, requirement)
             for place, spec in enumerate(specs):
                 held = self.condition(name, [spec])
                 if held is not None:

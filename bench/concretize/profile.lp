@@ -18,6 +18,7 @@
 %                        maybe_edge(N,M,K): a condition with `^` may ask for this edge. plain_virtual(U), free_virtual(U): without
 %                        and with conditions with `^` asking for U. possible_provider(U,M,S), where S is each list.
 %                        conflict(N,C). one_of(N,C,R), any_of(N,C,R), place(R,I,C). hopeless(N,C), hopeless_root: cannot be kept.
+% of the settings:       required_one(N,C,R), required_any(N,C,R) with places likewise, at nodes of each origin.
 % of costs:              deprecated(N,V), version_weight(N,V,W), provider_weight(U,M,W), os_weight(S,W), and so on.
 
 % ---- nodes
@@ -124,6 +125,10 @@ used(U) :- active(N,D), to_virtual(N,D,U).
 % Requirement
 :- built(N), one_of(N,C,R), true(C), not 1 { place(R,I,P) : place(R,I,P), true(P) } 1.
 :- built(N), any_of(N,C,R), true(C), not true(P) : place(R,_,P).
+
+% Required
+:- required_one(N,C,R), true(C), not 1 { place(R,I,P) : place(R,I,P), true(P) } 1.
+:- required_any(N,C,R), true(C), not true(P) : place(R,_,P).
 
 % Cycle
 #edge (N,M) : link(N,M).

@@ -218,6 +218,14 @@ class Settings:
     def preferred(self, name):
         return [tuple(text.split(",")) for text in self.packages.get(name, {}).get("versions", [])]
 
+    def required(self, name):
+        """What is required of each node of a package, as a recipe's `requires` is read."""
+        value = self.packages.get(name, {}).get("require", [])
+        for item in [value] if isinstance(value, str) else value:
+            entry = {"any_of": [item]} if isinstance(item, str) else item
+            texts = entry.get("any_of") or entry["one_of"]
+            yield [one_spec(text) for text in texts], "one_of" in entry, read_specs(entry.get("when", ""))
+
     def externals(self, name):
         return [External(entry["spec"]) for entry in self.packages.get(name, {}).get("externals", [])]
 

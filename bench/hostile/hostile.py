@@ -10,6 +10,7 @@ import argparse
 import os
 import sys
 
+import allocations
 import faults
 import fuzz
 import machine
@@ -25,6 +26,7 @@ PARTS = {
     "memory": machine.little_memory,
     "two-at-once": lambda program, options: machine.at_once(program, options, 2, options.rounds),
     "eight-at-once": lambda program, options: machine.at_once(program, options, 8, options.rounds // 5),
+    "allocations": allocations.allocations,
     "faults": faults.device_faults,
     **{"fuzz-" + kind: lambda program, options, kind=kind: fuzz.fuzz(program, options, kind) for kind in [*fuzz.PATHS, "spec"]},
     "edges": others.edges,
@@ -40,6 +42,7 @@ def main():
     parser.add_argument("--seed", type=int, default=1)
     parser.add_argument("--kills", type=int, default=200)
     parser.add_argument("--rounds", type=int, default=500, help="of two runs at once; of eight a fifth of it")
+    parser.add_argument("--allocations", type=int, default=300, help="that are refused of each command; 0 for all")
     parser.add_argument("--fuzz", type=float, default=60, help="seconds for each kind of file")
     parser.add_argument("--most", type=int, default=10**9, help="no more damaged files of a kind than so many")
     options = parser.parse_args()

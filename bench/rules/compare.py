@@ -48,7 +48,9 @@ use Rattle.reuse_db.specs.declared.record.Record.{Record}
 use Rattle.problem.specs.Problems.{Problem}
 use Rattle.problem.specs.Demands.{demands}
 use Rattle.problem.specs.Assembled.{is_assembled}
-use Rattle.graph_rules.specs.Valid.{keeps, keeps_demand, all_rules}
+use Rattle.graph_rules.specs.Valid.{keeps, keeps_demand}
+use Rattle.graph_rules.specs.declared.rule.Rule.{Rule}
+use Rattle.graph_rules.specs.declared.rule.Rule.TheVariants as which
 use Rattle.graph_rules.specs.Verdict.{verdict}
 use Rattle.graph_rules.specs.declared.rule.Verdict.{Verdict}
 use Rattle.graph_rules.specs.Costs.{vector}
@@ -99,7 +101,7 @@ abbrev pub compiler_entry : Compiler → Option (List Text) → Option (List Tex
 compiler_entry c o t = record { compiler = c; os = o; targets = t }
 
 abbrev pub package_entry : Text → List (List Range) → Bool → List ExternalEntry → PackageEntry
-package_entry n v b e = record { name = n; versions = v; buildable = b; externals = e }
+package_entry n v b e = record { name = n; versions = v; buildable = b; externals = e; require = [] }
 
 abbrev pub external : Text → List (Text × List Text) → Option Compiler → Option Text → Option Text → Text → ExternalEntry
 external v vs c o t p = record { version = v; variants = vs; compiler = c; os = o; target = t; prefix = p }
@@ -127,8 +129,14 @@ pub record Answers : Type 0 where
   pub vector : List ℕ
   pub verdict : Verdict
 
+-- all but Required, which the cases were written before: their settings require nothing
+abbrev pub older_rules : List Rule
+older_rules =
+    which.Root ∷ which.Buildable ∷ which.Version ∷ which.Variant ∷ which.Compiler ∷ which.Machine ∷ which.Edge ∷ which.ExtraEdge ∷ which.Constraint
+    ∷ which.Conflict ∷ which.Requirement ∷ which.Kept ∷ which.Provider ∷ which.UnusedProvider ∷ which.Cycle ∷ which.Unreachable ∷ []
+
 abbrev pub answers : Problem → Content → Answers
-answers p g = record { is_assembled = is_assembled p; is_graph = is_graph g; rules = map (λ rule. keeps rule p g) all_rules; demands = map (keeps_demand p g) (demands p); vector = vector p g; verdict = verdict p g }
+answers p g = record { is_assembled = is_assembled p; is_graph = is_graph g; rules = map (λ rule. keeps rule p g) older_rules; demands = map (keeps_demand p g) (demands p); vector = vector p g; verdict = verdict p g }
 """
 
 # what the cases were written over, and what stands for it here

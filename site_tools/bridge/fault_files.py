@@ -134,7 +134,7 @@ def json_file(fault: Fault, path: str) -> Told:
         offset, why = json_places.why_no_json(data)
         return Told(place_at(path, data, offset), [why])
     name = fault.name()
-    pointer = fault.rest(1).split(" ")[0] if name == "Spec" else fault.rest(1)
+    pointer = fault.fields()[0] if name == "Spec" else fault.rest(1)
     if name == "Targets":
         pointer = f"/targets/{fault.words[2]}" if len(fault.words) > 2 else "/targets"
     text = data.decode("utf-8", "replace")

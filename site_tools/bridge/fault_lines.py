@@ -9,6 +9,8 @@ from typing import Iterator, Optional
 STATUS = {"usage": 2, "bad input": 4, "read fault": 5, "write fault": 6, "too large": 7, "refused": 8, "no memory": 9}
 ANSWERS = {2: "Usage", 4: "BadInput", 5: "ReadFault", 6: "WriteFault", 7: "TooLarge", 8: "Refused", 9: "NoMemory"}
 LINE = re.compile(r"(usage|bad input|read fault|write fault|too large|refused): (.*)|(no memory)$", re.S)
+POINTERS = ("UnknownKey", "WrongKind", "Empty", "TwiceNamed", "BadExternal")
+INNER = re.compile(r"Spec (.*) (Expected|BadVersion|TwiceSet|Unsupported) ([0-9]+)(?: ([A-Za-z]+))?", re.S)
 ABOUT = re.compile(r"(settings|database|specs|lock|names|certificate|recipe [A-Za-z0-9_-]+): (.*)", re.S)
 
 
@@ -34,6 +36,15 @@ class Fault:
     def rest(self, place: int) -> str:
         """The fields from a place on, as they stand in the line."""
         return " ".join(self.words[place:])
+
+    def fields(self) -> list[str]:
+        """The fields behind the name. A pointer is one, whatever blanks the keys have that it is made of."""
+        if self.about not in ("settings", "database", "lock"):
+            return self.words[1:]
+        inner = INNER.fullmatch(self.rest(0))
+        if inner:
+            return [each for each in inner.groups() if each is not None]
+        return [self.rest(1)] if self.name() in POINTERS and self.words[1:] else self.words[1:]
 
 
 def read(line: str) -> Optional[Fault]:

@@ -49,7 +49,7 @@ def fault_data(err: str, words: list[str], wrong: str) -> Optional[dict[str, Any
     if fault is None:
         return None
     told = fault_words.told(fault, words_of(words))
-    found: dict[str, Any] = {"about": fault.about, "name": fault.name(), "fields": fault.words[1:]}
+    found: dict[str, Any] = {"about": fault.about, "name": fault.name(), "fields": fault.fields()}
     if fault.package:
         found["package"] = fault.package
     if told.place:

@@ -12,6 +12,7 @@ from .spec_text import Dialect, NotInProfile, Part
 from .wish_texts import Wish
 
 ODD = "it is not one version of the package, with one version of its compiler and one target"
+COMPLETED = "is asked of it as the settings complete it: without a compiler, with the recipe's defaults"
 
 
 def external_part(text: str) -> Optional[Part]:
@@ -67,6 +68,7 @@ def allowed(package: str, found: list[tuple[Part, str]], packages: dict, notes: 
     silent = Notes(notes.file)  # what cannot be read is listed where the recipes are made
     for section, when_true in (("require", False), ("conflict", True)):
         is_of_all, value = wish_texts.section_of(packages, package, section)
+        written = {wish.text for wish in wish_texts.read(section, package, value, silent)} if section == "require" else set()
         for wish in wish_texts.read(section, package, value, silent, Dialect(has_edges=True)):
             kept = []
             for part, prefix in found:
@@ -75,8 +77,8 @@ def allowed(package: str, found: list[tuple[Part, str]], packages: dict, notes: 
                     notes.leave_out_line(wish.line, f"packages.{package}.externals `{part.text()}`", f"{wish.shown()} forbids it")
                     continue
                 if answer is None and not is_of_all:
-                    what = f"{wish.shown()} is not asked of it, since it does not say all that is asked"
-                    notes.leave_out_line(wish.line, f"packages.{package}.externals `{part.text()}`", what)
+                    how = COMPLETED if wish.text in written else "is not asked of it, since it does not say all that is asked"
+                    notes.leave_out_line(wish.line, f"packages.{package}.externals `{part.text()}`", f"{wish.shown()} {how}")
                 kept.append((part, prefix))
             found = kept
     return found

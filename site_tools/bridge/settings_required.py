@@ -6,10 +6,10 @@ that has no own ones and that they can bind: it has the variants that are named,
 from dataclasses import dataclass, field
 from typing import Any, Optional
 
-from . import settings_externals, wish_texts
+from . import settings_externals, spec_text, wish_texts
 from .own_name import name_in
 from .settings_notes import Notes
-from .spec_text import Part, Spec
+from .spec_text import Dialect, Part, Spec
 from .wish_texts import Wish
 from .yaml_texts import line_of
 
@@ -49,8 +49,8 @@ def of_package(package: str, value: Any, externals: list[Part], required: Requir
     found = []
     has = (required.variants or {}).get(package)
     for wish in required.of_all if has is not None else []:
-        specs = [spec for spec in wish.specs if spec.top.name in (None, package) and set(spec.top.variants) <= has]
-        if specs and wish.when is not None and name_in(wish.when) not in (None, package):
+        specs = [spec for spec in wish.specs if may_hold(spec, package, has)]
+        if wish.when is not None and not may_hold(spec_text.read_condition(wish.when, Dialect()), package, has):
             continue
         if specs and any(settings_externals.meets_any(part, wish) is None for part in externals):
             where = f"packages.all.{wish.shown()} of `{package}`"
@@ -58,6 +58,11 @@ def of_package(package: str, value: Any, externals: list[Part], required: Requir
         elif specs:
             found.append(item(wish, specs))
     return found
+
+
+def may_hold(spec: Spec, package: str, variants: set[str]) -> bool:
+    """Whether the first part names no other package, and no variant that the package has not."""
+    return spec.top.name in (None, package) and set(spec.top.variants) <= variants
 
 
 def own(package: str, value: Any, notes: Notes) -> list[Any]:

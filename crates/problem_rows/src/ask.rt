@@ -6,17 +6,18 @@
 //! `holds NODE SPEC`, `all NODE SPEC & SPEC` (both), `governing NODE VARIANT` (the number of the
 //! definition). `node NAME` is the node that a name asks for. `problem SPEC SPEC` has the demands
 //! where these are requested, or why they are refused; `closure SPEC SPEC` the names that nodes may
-//! then have.
+//! then have. `find SPEC` has the records of the site that meet it.
 
 ghost use Rattle.std.specs.Prelude.{◌≡◌, true};
 ghost use Rattle.std.specs.List.{list_all};
 ghost use Rattle.recipe_data.specs.Right.{is_right_recipe};
 ghost use Rattle.virtuals.specs.Virtuals.{AreInOrder, AreProviders};
 
+use crate::found::found_text;
 use crate::graph::graph_of;
 use crate::recipes::recipes_of;
 use crate::roots::problem_text;
-use crate::site::site_of;
+use crate::site::{Site, site_of};
 use condition_rules::{World, all_hold, asked_node, governing, holds, meets, meets_rest, provides};
 use graph_core::{Graph, Node};
 use plain_data::List;
@@ -191,6 +192,35 @@ fn of_world(
     of_graph(alloc, &world, graph, what, rest)
 }
 
+fn found_over(
+    alloc: Global,
+    recipes: &[Recipe],
+    site: Site,
+    spec: &str,
+) -> Result<String, AllocError>
+    requires { AreInOrder recipes.now }
+{
+    let providers = Providers::of_recipes(alloc, recipes)?;
+    let settings = &site.settings;
+    let world = World::new(
+        settings.platform.as_str(),
+        &settings.targets,
+        recipes,
+        &providers,
+    );
+    found_text(alloc, &world, &site.database, spec)
+}
+
+fn found_in(alloc: Global, recipes: &[Recipe], site: &str, spec: &str) -> Result<String, AllocError>
+    requires { AreInOrder recipes.now }
+{
+    match site_of(alloc, site) {
+        Ok(site) => found_over(alloc, recipes, site, spec),
+        Err(DbFault::OutOfMemory) => Err(AllocError),
+        Err(_) => text_of(alloc, "no database"),
+    }
+}
+
 fn of_recipes(
     alloc: Global,
     recipes: Vec<Recipe>,
@@ -208,6 +238,9 @@ fn of_recipes(
             Err(DbFault::OutOfMemory) => Err(AllocError),
             Err(_) => text_of(alloc, "no database"),
         };
+    }
+    if what == "find" {
+        return found_in(alloc, recipes.as_slice(), site, rest);
     }
     if what == "clash" {
         return clash_text(alloc, recipes.as_slice());

@@ -101,7 +101,7 @@ fn choose(alloc: Global, node: &mut Node) -> Result<(), VersionFault> {
 }
 
 /// Puts one item; whether it was put.
-fn put(alloc: Global, graph: &mut Graph, item: &str) -> Result<bool, AllocError> {
+pub(crate) fn put(alloc: Global, graph: &mut Graph, item: &str) -> Result<bool, AllocError> {
     if let Some((parent, child)) = item.split_once('>') {
         return graph.add_edge(edge_of(alloc, parent, child, LINKED)?);
     }

@@ -1,10 +1,10 @@
 //! Rows over a table of targets or a graph of their own.
 //!
 //! What stands behind `over` is `targets` or `graph`, what it is made of, and questions, each
-//! behind a `|`. The items and the questions stand at `targets` and `graphs`; a question that no
-//! call takes is answered by `no`.
+//! behind a `|`; or `plan` and the items of a graph. The items and the questions stand at `targets`,
+//! `graphs` and `plans`; a question that no call takes is answered by `no`.
 
-use crate::{graphs, targets};
+use crate::{graphs, plans, targets};
 use std::alloc::{AllocError, Global};
 
 /// What the calls on it answer.
@@ -22,6 +22,7 @@ pub(crate) fn answer(alloc: Global, line: &str) -> Result<String, AllocError> {
         [kind, items @ ..] if *kind == "graph" => {
             graphs::answer(alloc, &mut text, items, questions)?;
         }
+        [kind, items @ ..] if *kind == "plan" => plans::answer(alloc, &mut text, items)?,
         _ => text.push_str("no")?,
     }
     Ok(text)

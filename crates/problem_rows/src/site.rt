@@ -1,13 +1,17 @@
 //! What a site has, line by line.
 //!
+//! `require NAME CONDITION..` is what the settings require of a package, item by item;
 //! `package NAME` is what the settings say of a package without externals, `external NAME` of one
 //! with an external; `record NAME CHILD:KIND..` is an installed package, whose children are records
-//! above it, KIND being `build`, `link` or `run`.
+//! above it. NAME may have a version behind `@`, which is 1 without, and then `%gcc`, which is gcc
+//! 12.2; CHILD may have a version too. KIND is `build`, `link` or `run`, or several joined by `+`.
 
-use graph_core::Kinds;
+use crate::nodes::compiler_of;
+use graph_core::{Compiler, Kinds};
 use plain_data::{List, Word};
 use reuse_db::{Database, DbFault, Record, canonical};
-use site_settings::{ExternalEntry, PackageEntry, Settings};
+use site_settings::{ExternalEntry, PackageEntry, RequireEntry, Settings};
+use spec_grammar::{Condition, read_condition};
 use spec_hash::{Hash, hash_text};
 use std::alloc::{AllocError, Global};
 use version_order::Version;
@@ -21,8 +25,8 @@ pub(crate) struct Site {
 
 // ---- settings
 
-fn version_of(alloc: Global) -> Result<Version, AllocError> {
-    match Version::read(alloc, "1") {
+fn version_of(alloc: Global, text: &str) -> Result<Version, AllocError> {
+    match Version::read(alloc, text) {
         Ok(version) => Ok(version),
         Err(_) => Err(AllocError),
     }
@@ -30,7 +34,7 @@ fn version_of(alloc: Global) -> Result<Version, AllocError> {
 
 fn external_of(alloc: Global) -> Result<ExternalEntry, AllocError> {
     Ok(ExternalEntry {
-        version: version_of(alloc)?,
+        version: version_of(alloc, "1")?,
         variants: List::new(alloc),
         compiler: None,
         os: None,
@@ -53,11 +57,37 @@ fn package_of(alloc: Global, name: &str, is_there: bool) -> Result<PackageEntry,
     })
 }
 
+fn item_of(alloc: Global, text: &str) -> Result<RequireEntry, AllocError> {
+    let mut specs = List::new(alloc);
+    match read_condition(alloc, text) {
+        Ok(spec) => specs.push(spec)?,
+        Err(_) => return Err(AllocError),
+    }
+    Ok(RequireEntry {
+        specs,
+        one_of: false,
+        when: Condition {
+            specs: List::new(alloc),
+        },
+    })
+}
+
+fn required_of(alloc: Global, words: &str) -> Result<PackageEntry, AllocError> {
+    let (name, texts) = words.split_once(' ').unwrap_or((words, ""));
+    let mut package = package_of(alloc, name, false)?;
+    for text in texts.split_whitespace() {
+        package.require.push(item_of(alloc, text)?)?;
+    }
+    Ok(package)
+}
+
 fn add_package(alloc: Global, settings: &mut Settings, line: &str) -> Result<(), AllocError> {
     if let Some(name) = line.strip_prefix("package ") {
         settings.packages.push(package_of(alloc, name, false)?)?;
     } else if let Some(name) = line.strip_prefix("external ") {
         settings.packages.push(package_of(alloc, name, true)?)?;
+    } else if let Some(words) = line.strip_prefix("require ") {
+        settings.packages.push(required_of(alloc, words)?)?;
     }
     Ok(())
 }
@@ -73,17 +103,30 @@ fn settings_of(alloc: Global, lines: &str) -> Result<Settings, AllocError> {
 
 // ---- records
 
+fn has_kind(kinds: &str, kind: &str) -> bool {
+    kinds.split('+').any(|word| word == kind)
+}
+
 fn kinds_of(word: &str) -> Kinds {
     Kinds {
-        build: word == "build",
-        link: word == "link",
-        run: word == "run",
+        build: has_kind(word, "build"),
+        link: has_kind(word, "link"),
+        run: has_kind(word, "run"),
     }
 }
 
-fn hash_at(records: &[Record], name: &str) -> Option<Hash> {
+fn is_named(record: &Record, word: &str) -> bool {
+    match word.split_once('@') {
+        Some((name, version)) => {
+            record.name.as_str() == name && record.version.text() == version
+        }
+        None => record.name.as_str() == word,
+    }
+}
+
+fn hash_at(records: &[Record], word: &str) -> Option<Hash> {
     for record in records {
-        if record.name.as_str() == name {
+        if is_named(record, word) {
             return Some(record.hash);
         }
     }
@@ -105,14 +148,27 @@ fn children_of(
     Ok(children)
 }
 
+fn compiler_at(alloc: Global, has_compiler: bool) -> Result<Option<Compiler>, AllocError> {
+    if has_compiler {
+        Ok(Some(compiler_of(alloc)?))
+    } else {
+        Ok(None)
+    }
+}
+
 fn record_of(alloc: Global, records: &[Record], words: &str) -> Result<Record, AllocError> {
-    let (name, children) = words.split_once(' ').unwrap_or((words, ""));
+    let (subject, children) = words.split_once(' ').unwrap_or((words, ""));
+    let (subject, has_compiler) = match subject.strip_suffix("%gcc") {
+        Some(front) => (front, true),
+        None => (subject, false),
+    };
+    let (name, version) = subject.split_once('@').unwrap_or((subject, "1"));
     let mut record = Record {
         hash: hash_text(b""),
         name: Word::new(alloc, name)?,
-        version: version_of(alloc)?,
+        version: version_of(alloc, version)?,
         variants: List::new(alloc),
-        compiler: None,
+        compiler: compiler_at(alloc, has_compiler)?,
         os: Word::new(alloc, "ubuntu22.04")?,
         target: Word::new(alloc, "x86_64")?,
         external: None,

@@ -29,3 +29,4 @@ class Hdf5(Package):
         conflicts("+threadsafe", when="+hl")
     conflicts("+threadsafe", when="+fortran")
     requires("%gcc")
+    requires("@1.12:", "~mpi", policy="any_of", when="@1.8:")

@@ -18,3 +18,4 @@ class ZlibNg(Package):
     depends_on("c", type="build")
     depends_on("cmake@3.5.1:", type="build")
     conflicts("%gcc@:4")
+    requires("+compat")
