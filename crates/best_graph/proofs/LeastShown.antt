@@ -1,5 +1,5 @@
 -- What a least list of demands shows of the graphs of a problem.
-use Rattle.std.proofs.Common.{◌≡◌, ◌↔◌, refl, sym, ap, ◌∙◌, ℕ, ◌+◌, ◌-◌, zero, suc, Bool, true, false, List, [], ◌∷◌, Option, Some, None, All, map, inl, inr, cond, arith}
+use Rattle.std.proofs.Common.{◌≡◌, ◌↔◌, refl, sym, subst, ap, ◌∙◌, ℕ, ◌+◌, ◌-◌, ◌<◌, length, get_or, zero, suc, Bool, true, false, List, [], ◌∷◌, Option, Some, None, All, map, inl, inr, cond, arith}
 use Rattle.std.specs.Prelude.{slice_get, filter_map}
 use Rattle.std.specs.List.{list_all, cons_option}
 use Rattle.std.proofs.Math.Dec.{eqb}
@@ -32,6 +32,10 @@ use Rattle.best_graph.proofs.ReasonsShown.{HasModels}
 use Rattle.best_graph.specs.Explanations.{HasGraph, demands_at}
 use Rattle.best_graph.specs.Explanations as explanations
 use Rattle.best_graph.specs.LeastLists.{IsValidFor, HaveGraphs, IsLeastList, AreOpen, IsSpentOn}
+
+-- what holds of each holds of the one at a place
+pub all_at : {X : Type 0} (P : X → Type 0) (xs : List X) (i : ℕ) (x : X) → All P xs → i < length xs → x ≡ get_or xs i x → P x
+all_at P xs i x all lt is = subst P (sym is) (all i x lt)
 
 -- ---- demands by their numbers
 
