@@ -16,8 +16,9 @@ returns-in_ok-said-in-Try-clause-left g c = c.tell-in-Try.ensures.left c.args.lo
 pub returns-in_ok-said-in-Try-clause-kept : goal.returns-in_ok-said-in-Try-clause-kept
 returns-in_ok-said-in-Try-clause-kept g c =
     let files = g.D.Desk.files c.args.desk.now in
-    rw c.in-Try.is (of_trial c.args.lock.now c.args.cert.now c.in-Try.input files files _ _ c.in_ok-said-in-Try.said.outcome _ c.tell-in-Try.result
-    c.in_ok-said-in-Try.ensures.kept c.tell-in-Try.ensures.outcome)
+    rw c.in-Try.is (of_trial c.args.lock.now c.args.cert.now c.in-Try.input files files (g.O.Sink.said c.args.out.now)
+    (g.O.Sink.said c.tell-in-Try.new.out) c.in_ok-said-in-Try.said.outcome _ c.tell-in-Try.result c.in_ok-said-in-Try.ensures.kept
+    c.tell-in-Try.ensures.outcome)
 
 pub returns-in_ok-said-in-Compare-clause-left : goal.returns-in_ok-said-in-Compare-clause-left
 returns-in_ok-said-in-Compare-clause-left g c = c.tell-in-Compare.ensures.left c.args.lock.now c.args.cert.now _
