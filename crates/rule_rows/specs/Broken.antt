@@ -3,6 +3,7 @@ use Rattle.std.specs.Prelude.{Bool, true, false, not, map, List, [], ◌∷◌, 
 use Rattle.version_order.specs.declared.item.Item.TheVariants.{Range}
 use Rattle.spec_grammar.specs.Meaning.{empty_part}
 use Rattle.spec_grammar.specs.declared.part.Spec.{Spec}
+use Rattle.recipe_data.specs.declared.recipe.Recipe.{Recipe}
 use Rattle.graph_core.specs.Graphs.{Text, Content}
 use Rattle.graph_core.specs.declared.node.Node.{Node}
 use Rattle.problem.specs.Problems.{Problem}
@@ -108,7 +109,7 @@ newer_zlib_asked = asking (codes "zlib") false (spec (at (Range (Some (codes "1.
 -- the settings ask for one of two variants, and the recipe for neither
 abbrev pub one_asked : Problem
 one_asked = asking (codes "x") true (spec (on (codes "p") (empty_part None)) ∷ spec (on (codes "q") (empty_part None)) ∷ [])
-    (record one_of_two { recipes = map (λ r. record r { requirements = [] }) one_of_two.recipes })
+    (record one_of_two { recipes = map {A = Recipe} (λ r. record r { requirements = [] }) one_of_two.recipes })
 
 -- zlib has an old version besides, which hdf5 does not take
 abbrev pub older_zlib : Problem
