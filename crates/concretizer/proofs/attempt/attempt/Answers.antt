@@ -21,7 +21,8 @@ returns-in-Err-clause-held g c = held_still (words_of c.args.words.now) _
 
 pub returns-in-Err-clause-kept : goal.returns-in-Err-clause-kept
 returns-in-Err-clause-kept g c =
-    none_kept (words_of c.args.words.now) _ (_, _) _ c.in-Err.stop c.in-Err.ensures.read c.new.ensures
+    none_kept (words_of c.args.words.now) _ (g.O.Sink.said c.args.out.now, g.O.Sink.said c.args.out.now) _ c.in-Err.stop c.in-Err.ensures.read
+    c.new.ensures
 
 pub returns-in-Err-clause-read : goal.returns-in-Err-clause-read
 returns-in-Err-clause-read g c = record {
