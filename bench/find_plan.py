@@ -6,6 +6,7 @@
 
 It prints each case that differs, and at the end how many there were; it ends with 1 where one differs.
 """
+import argparse
 import base64
 import hashlib
 import json
@@ -184,9 +185,11 @@ def plan_case(program, folder, draw):
 
 
 def main():
-    program = os.path.abspath(sys.argv[1] if len(sys.argv) > 1 else os.path.join(TOP, "spack_concretize"))
-    cases = int(sys.argv[2]) if len(sys.argv) > 2 else 300
-    differ = 0
+    parser = argparse.ArgumentParser(description=__doc__, formatter_class=argparse.RawDescriptionHelpFormatter)
+    parser.add_argument("program", nargs="?", default=os.path.join(TOP, "spack_concretize"), help="the launcher, where none is given")
+    parser.add_argument("cases", nargs="?", type=int, default=300)
+    words = parser.parse_args()
+    program, cases, differ = os.path.abspath(words.program), words.cases, 0
     for kind, case in (("find", find_case), ("plan", plan_case)):
         for seed in range(cases):
             with tempfile.TemporaryDirectory() as folder:
