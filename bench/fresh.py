@@ -13,7 +13,6 @@ were; it ends with 1 where one differs.
 import argparse
 import base64
 import collections
-import gzip
 import hashlib
 import json
 import os
@@ -23,17 +22,11 @@ import subprocess
 import sys
 import tempfile
 
+from cases import cases_of
+
 TOP = os.path.dirname(os.path.dirname(os.path.abspath(__file__)))
 STALE = 11 # the exit status
 TRIES = 8 # of a case, to make a worse lock file of it
-
-
-def cases_of(file):
-    with (gzip.open if file.endswith(".gz") else open)(file, "rt") as lines:
-        for line in lines:
-            case = json.loads(line)
-            if case["words"][0] == "concretize":
-                yield case
 
 
 def compact(lock):

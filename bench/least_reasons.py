@@ -8,16 +8,15 @@ For each list the recipes, the settings and the request are edited until they as
 entry of `require` and a root that the list does not name are taken out, and a `depends_on` may be left off and is without its
 constraints. Then `concretize` of JUDGE has to say that there is no graph; and with one more demand taken out it has to find one, which
 `judge` calls valid. Besides, it has to find one where each package may be built only as the nodes below that demand say, and no other at all.
-A list without its only root is met by the empty graph.
+A list without its only root is met by the empty graph. A root that the list does not name is asked for by its package alone where the
+package is among the nodes: by the rules it may be there, and need not.
 
 It prints each list that differs, then how many there were and how long, and how much more processor time `reasons` took than
 `explain` (the median and the worst), and the most memory. It ends with 1 where one differs. JUDGE may be an older program than PROGRAM, so that none of
 its code is believed either.
 """
 import argparse
-import base64
 import collections
-import gzip
 import json
 import os
 import pathlib
@@ -32,16 +31,10 @@ sys.path.insert(0, os.path.join(TOP, "site_tools"))
 
 from bridge import answers, recipe_rows, spec_parts  # noqa: E402
 
+from cases import cases_of, unpack
+
 DEMAND = re.compile(r"root ([0-9]+) (.*)|([A-Za-z0-9_-]+) (depends_on|conflicts|requires|require) ([0-9]+)")
 DONE, UNSATISFIABLE = 0, 1
-
-
-def cases_of(file):
-    with (gzip.open if file.endswith(".gz") else open)(file, "rt") as lines:
-        for line in lines:
-            case = json.loads(line)
-            if case["words"][0] == "concretize":
-                yield case
 
 
 class Run:
@@ -69,14 +62,6 @@ class Run:
             finally:
                 os._exit(127)
         return child
-
-
-def unpack(case, folder):
-    for path, content in case["files"].items():
-        target = os.path.join(folder, path)
-        os.makedirs(os.path.dirname(target), exist_ok=True)
-        with open(target, "wb") as file:
-            file.write(base64.b64decode(content))
 
 
 def read_list(said):
@@ -163,6 +148,12 @@ def edited(case, demands, nodes, folder):
     return [specs[each[1]] for each in sorted(demands, key=str) if each[0] == "root"]
 
 
+def other_roots(case, demands):
+    """The packages of the roots that are none of these demands: each may be a node, since every root is reached."""
+    asked = {each[1] for each in demands if each[0] == "root"}
+    return [spec[0].name for place, spec in enumerate(spec_parts.parts(" ".join(case["words"][6:]))) if place not in asked]
+
+
 def spec_texts(text):
     """The roots of a request, each as a text."""
     return [spec_parts.text_of(spec) for spec in spec_parts.parts(text)]
@@ -174,10 +165,11 @@ class Judge:
     def __init__(self, program, case):
         self.program, self.case = program, case
 
-    def ask(self, demands, nodes=None):
-        """Whether there is a graph for these demands alone; a graph has to be called valid. None where the program refuses the problem."""
+    def ask(self, demands, nodes=None, there=()):
+        """Whether there is a graph for these demands alone that has these packages besides; a graph has to be called valid. What the program
+        says where it refuses the problem."""
         with tempfile.TemporaryDirectory() as folder:
-            roots = edited(self.case, demands, nodes, folder)
+            roots = [*edited(self.case, demands, nodes, folder), *there]
             if not roots:
                 return True
             _, repo, settings, database, *_ = self.case["words"]
@@ -196,16 +188,19 @@ def checked(judge, found):
     demands = [demand for demand, _ in found]
     if len(set(demands)) != len(demands):
         yield "a demand stands twice"
-    whole = judge.ask(demands)
-    if whole is not False:
-        yield f"the demands can be met together: {whole}"
+    for there in ([], other_roots(judge.case, demands)):
+        whole = judge.ask(demands, there=there)
+        if whole is not False:
+            yield f"the demands can be met together: {whole}"
     for place, (demand, nodes) in enumerate(found):
         others = demands[:place] + demands[place + 1 :]
-        without = judge.ask(others)
+        names = {answers.node(line)["name"] for line in nodes}
+        there = [name for name in other_roots(judge.case, others) if name in names]
+        without = judge.ask(others, there=there)
         if without is not True:
             yield f"{demand} can be left out: {without}"
         if nodes:
-            shown = judge.ask(others, nodes)
+            shown = judge.ask(others, nodes, there)
             if shown is not True:
                 yield f"no graph is as said below {demand}: {shown}"
 
