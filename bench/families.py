@@ -190,12 +190,26 @@ def externals(n):
 def record(name, version, children=()):
     made = {"name": name, "version": version, "variants": {}, "compiler": GCC, "os": "ubuntu22.04", "target": "x86_64", "external": None,
             "dependencies": [{"hash": child, "kinds": ["build", "link"]} for child in sorted(children)]}
-    return made | {"hash": base64.b32encode(hashlib.sha256(compact(made).encode()).digest()[:20]).decode().lower()}
+    return with_hash(made)
+
+
+def with_hash(made):
+    text = compact({key: value for key, value in made.items() if key != "hash"})
+    return made | {"hash": base64.b32encode(hashlib.sha256(text.encode()).digest()[:20]).decode().lower()}
 
 
 def records(n, name):
     made = [record(name % i, "1.%d" % i) for i in range(n)]
     return recipes(p=['version("1")']) | {"d": compact({"records": made, "version": 1})}, ["concretize", "r", "-", "d", "o", "-", "p"]
+
+
+def recorded_virtuals(n):
+    """Records of one package over as many versions of another one, each naming as many virtuals."""
+    names = ["v%d" % i for i in range(n)]
+    below = [record("q", "1.%d" % i) for i in range(n)]
+    above = [{**record("p", "1"), "version": "1.%d" % i, "dependencies": [{"hash": it["hash"], "kinds": ["link"], "virtuals": sorted(names)}]} for i, it in enumerate(below)]
+    files = recipes(p=versions(n) + ['depends_on("v0")'], q=versions(n) + ["provides(%s)" % ", ".join('"%s"' % name for name in names)])
+    return files | {"d": compact({"records": below + [with_hash(it) for it in above], "version": 2})}, ["concretize", "r", "-", "d", "o", "-", "p"]
 
 
 def other_records(n):

@@ -40,7 +40,7 @@ def lock(count, children_of, name):
     for i in range(count):
         nodes.append(node(name(i), [nodes[j]["hash"] for j in children_of(i)]))
     root = {"hash": nodes[-1]["hash"], "spec": nodes[-1]["name"]}
-    return compact({"nodes": sorted(nodes, key=lambda n: n["name"]), "providers": {}, "roots": [root], "version": 1}) + "\n"
+    return compact({"nodes": sorted(nodes, key=lambda n: n["name"]), "providers": {}, "roots": [root], "version": 2}) + "\n"
 
 
 def some(i, most):

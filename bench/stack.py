@@ -66,7 +66,7 @@ def node(name, version, children=(), **more):
 def locked(nodes, root, providers=(), roots=1):
     nodes = [record | {"entry": None, "origin": "built"} for record in nodes]
     return compact({"nodes": sorted(nodes, key=lambda n: n["name"]), "providers": dict(providers),
-                    "roots": [{"hash": root["hash"], "spec": root["name"]}] * roots, "version": 1}) + "\n"
+                    "roots": [{"hash": root["hash"], "spec": root["name"]}] * roots, "version": 2}) + "\n"
 
 
 KINDS = []
@@ -201,7 +201,7 @@ kind("JSON inside each other")(lambda n: S | {"s": "[" * n})
 # ---- databases
 
 def database(records):
-    return compact({"records": sorted(records, key=lambda record: record["hash"]), "version": 1})
+    return compact({"records": sorted(records, key=lambda record: record["hash"]), "version": 2})
 
 
 def chained(count):
@@ -215,6 +215,17 @@ def chained(count):
 def starred(count):
     leaves = [node("q%d" % i, "1") for i in range(min(count, MOST_NAMES))]
     return leaves + [node("p", "1", [leaf["hash"] for leaf in leaves])]
+
+
+def named(count):
+    """A node over another one that provides as many virtuals to it."""
+    child = node("q", "1")
+    virtuals = sorted("v%d" % i for i in range(count))
+    return [child, node("p", "1", dependencies=[{"hash": child["hash"], "kinds": ["build", "link"], "virtuals": virtuals}])]
+
+
+def provided(count):
+    return with_node("q", [P] + ['depends_on("v%d")' % i for i in range(count)], [P] + ['provides("v%d")' % i for i in range(count)])
 
 
 def chain_recipes(count):
@@ -235,6 +246,7 @@ kind("records")(lambda n: S | {"d": database([node("p", "1.%d" % i) for i in ran
 kind("records of other packages")(lambda n: S | {"d": database([node("q%d" % i, "1") for i in range(n)])})
 kind("a chain of records", "q0")(lambda n: chain_recipes(n) | {"d": database(chained(n))})
 kind("dependencies of a record")(lambda n: star_recipes(n) | {"d": database(starred(n))})
+kind("virtuals of a dependency")(lambda n: provided(n) | {"d": database(named(n))})
 kind("variants of a record")(lambda n: rows(n, 'variant("a%d", default=True)') | {"d": database([valued(n)])})
 kind("values of a record")(
     lambda n: one([P, 'variant("a", default="v0", values=(%s), multi=True)' % joined(n, '"v%d"')])
@@ -245,6 +257,7 @@ kind("values of a record")(
 kind("lock: variants")(lambda n: rows(n, 'variant("a%d", default=True)') | {"l": locked([valued(n)], valued(n))})
 kind("lock: a chain", "q0")(lambda n: chain_recipes(n) | {"l": locked(chained(n), chained(n)[-1])})
 kind("lock: edges of a node")(lambda n: star_recipes(n) | {"l": locked(starred(n), starred(n)[-1])})
+kind("lock: virtuals of an edge")(lambda n: provided(n) | {"l": locked(named(n), named(n)[-1], [("v%d" % i, "q") for i in range(n)])})
 kind("lock: nodes that no recipe makes")(lambda n: S | {"l": locked([node("p", "1")] + [node("q%d" % i, "1") for i in range(n)], node("p", "1"))})
 kind("lock: roots")(lambda n: S | {"l": locked([node("p", "1")], node("p", "1"), roots=n)})
 kind("lock: providers")(lambda n: S | {"l": locked([node("p", "1")], node("p", "1"), [("v%d" % i, "p") for i in range(n)])})

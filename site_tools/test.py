@@ -160,7 +160,7 @@ def check_site() -> Check:
         else:
             yield from compared("examples/site settings report", report, SITE / "reports" / "settings.txt")
             yield from compared("examples/site settings", (room / "settings.json").read_text("utf-8"), SITE / "settings.json")
-        report = run(installed.main, SITE / "spack" / "index.json", room / "database.json", room / "hashes.tsv")
+        report = run(installed.main, SITE / "spack" / "index.json", room / "database.json", room / "hashes.tsv", "--repo", room / "repo")
         yield from compared("examples/site installed report", report, SITE / "reports" / "installed.txt")
         for each in ("database.json", "hashes.tsv"):
             yield from compared(f"examples/site {each}", (room / each).read_text("utf-8"), SITE / each)

@@ -98,6 +98,10 @@ run_on_terminal() {
     printf -v said ' %q' "${@:2:3}" "${@:$([ "$1" = concretize ] && echo 7 || echo 5)}"
     tell "why, in words: $top/site_tools/show_reasons$said"
     ;;
+  spack_concretize:1:each)
+    printf -v said ' %q' "${@:2:3}"
+    tell "why, in words, of each root that is unsatisfiable: $top/site_tools/show_reasons$said ROOT"
+    ;;
   esac
   exit "$status"
 }

@@ -167,6 +167,10 @@ cases_of_the_terminal() {
   mkdir -p "$work/r/packages/x" && printf 'class X(Package):\n    if 1:\n        pass\n' >"$work/r/packages/x/package.py"
   call_on_terminal explain r - - 'bad\ input:\ recipe\ x:\ Unsupported\ 22' 4
   check "of a fault a terminal is told line and column" grep -q 'r/packages/x/package.py:2:5:' <<<"$out"
+  call_on_terminal each r s - d 1
+  check "of roots without a graph a terminal is told how to ask why" grep -q 'each root that is unsatisfiable: .*/site_tools/show_reasons r s - ROOT' <<<"$out"
+  call_on_terminal each r s - d 0
+  check "and nothing where each has one" sh -c '! grep -q show_reasons' <<<"$out"
   call explain r - - 'bad input: recipe x: Unsupported 22' 4
   check "a file is not told them" test "$(wc -l <"$work/err")" = 1
   : >"$work/.spack_concretize-0.tmp" # another run's

@@ -20,11 +20,11 @@ class Conditions:
         self.numbers = {}
         self.conditions, self.parts, self.ways = {}, {}, set()
         self.far, self.always = set(), set()  # conditions with `^`, and those of each node of their name
-        self.virtuals = {}  # those that a recipe asks for, each with whether a condition with `^` does
+        self.virtuals = {}  # those that a recipe asks for or a record names, each with whether a condition with `^` asks for it
         for name in self.names.next:
-            for part, _, _ in self.directives(name, "depends"):
-                if problem.is_virtual(part.name):
-                    self.virtuals[part.name] = False
+            asked = [part.name for part, _, _ in self.directives(name, "depends")]
+            named = [virtual for node in self.names.kept[name] for _, _, _, virtuals in node.children for virtual in virtuals]
+            self.virtuals.update({virtual: False for virtual in [*asked, *named] if problem.is_virtual(virtual)})
 
     def directives(self, name, kind):
         """Those of a package that may be built."""

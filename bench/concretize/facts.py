@@ -37,10 +37,12 @@ class Facts(Conditions):
             for variant, values in node.variants.items():
                 for value in sorted(values):
                     self.fact("option_value", *own, quoted(variant), quoted(value))
-            for child, term, kinds in node.children:
+            for child, term, kinds, virtuals in node.children:
                 self.fact("option_child", *own, quoted(child), term)
                 for kind in sorted(kinds):
                     self.fact("option_edge", *own, quoted(child), kind)
+                for virtual in sorted(virtuals):
+                    self.fact("option_provider", *own, quoted(virtual), quoted(child))
         recipe = self.problem.recipes.get(name)
         rows = recipe.versions if recipe else []
         places = weights(rows, settings.preferred(name))

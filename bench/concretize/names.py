@@ -21,7 +21,7 @@ class Kept:
     def __init__(self, term, version, variants, compiler, os, target):
         self.term, self.version, self.variants = term, version, variants
         self.compiler, self.os, self.target = compiler, os, target
-        self.children = []  # (name, its term, kinds)
+        self.children = []  # (name, its term, kinds, virtuals)
 
 
 class Names:
@@ -49,7 +49,7 @@ class Names:
         for part, _, _ in recipe.depends if recipe else ():
             yield from self.asked(part.name)
         for _, record in self.records_of.get(name, ()):
-            for child, _ in record.children:
+            for child, _, _ in record.children:
                 yield self.problem.records[child].name
 
     def asked(self, name):
@@ -80,7 +80,8 @@ class Names:
         for place, record in self.records_of.get(name, ()):
             node = Kept("installed(%d)" % place, record.version, record.variants, record.compiler, record.os, record.target)
             node.children = [
-                (self.problem.records[child].name, "installed(%d)" % self.places[child], kinds) for child, kinds in record.children
+                (self.problem.records[child].name, "installed(%d)" % self.places[child], kinds, virtuals)
+                for child, kinds, virtuals in record.children
             ]
             kept.append(node)
         return kept

@@ -6,7 +6,7 @@
 % follow from roots and edges, which is the rule Unreachable.
 %
 % Facts of nodes:        root(N). option(N,O), where O is build, external(I) or installed(I), and option_version and the like say what such a
-%                        node has; option_child(N,O,M,P): its child M is the node P.
+%                        node has; option_child(N,O,M,P): its child M is the node P; option_provider(N,O,U,M): its child M provides U to it.
 % of the machine:        configured(C), lacks_os(C,S), lacks_target(C,T), machine_os(S), machine_target(T).
 % of conditions:         plain(C,N), far(C,N): C is a condition at N without `^`, with it. asks(C,F): it makes the test F of the node.
 %                        asks_below(C,Q): it asks for the part Q after `^`. version_in(N,S,V): the set S contains V; so for
@@ -46,6 +46,7 @@ target(N,T) :- kept(N,O), option_target(N,O,T).
 value(N,X,Y) :- kept(N,O), option_value(N,O,X,Y).
 edge(N,M,K) :- kept(N,O), option_edge(N,O,M,K).
 :- kept(N,O), option_child(N,O,M,P), not origin(M,P).
+:- kept(N,O), option_provider(N,O,U,M), not provider(U,M).
 
 % ---- conditions
 
@@ -113,7 +114,9 @@ suited(Q) :- suits(Q,_).
 
 % Provider, UnusedProvider; where a condition with `^` may ask for the virtual, its provider is chosen freely
 plain_used(U) :- plain_active(N,D), to_virtual(N,D,U).
+plain_used(U) :- kept(N,O), option_provider(N,O,U,_).
 used(U) :- active(N,D), to_virtual(N,D,U).
+used(U) :- kept(N,O), option_provider(N,O,U,_).
 1 { provider(U,M) : possible_provider(U,M,_) } 1 :- plain_used(U), plain_virtual(U).
 { provider(U,M) : possible_provider(U,M,_) } 1 :- free_virtual(U).
 :- provider(U,M), not used(U).

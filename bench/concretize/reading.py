@@ -247,9 +247,9 @@ class Record:
         compiler = given["compiler"]
         self.compiler = compiler and (compiler["name"], compiler["version"])
         self.os, self.target = truth(given["os"]), truth(given["target"])
-        # the link and run children, each with these of its kinds
-        kept = [(child["hash"], frozenset(child["kinds"]) & {"link", "run"}) for child in given["dependencies"]]
-        self.children = [(child, kinds) for child, kinds in kept if kinds]
+        # the link and run children, each with these of its kinds and with what it provides
+        kept = [(child["hash"], frozenset(child["kinds"]) & {"link", "run"}, child.get("virtuals", [])) for child in given["dependencies"]]
+        self.children = [(child, kinds, virtuals) for child, kinds, virtuals in kept if kinds]
 
 
 def read_database(path):

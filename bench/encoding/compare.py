@@ -58,7 +58,7 @@ class Problem:
         if self.database != "-":
             with open(os.path.join(folder, self.database)) as file:
                 records = json.load(file)["records"]
-        self.graphs = Graphs(self.encoding, records)
+        self.graphs = Graphs(self.encoding, records, *([options.kinds] if hasattr(options, "kinds") else []))
         self.roots = self.encoding.roots()
 
     def judge(self, graph, name="lock"):
@@ -86,11 +86,11 @@ class Problem:
 
 def changed(graph, encoding, draw):
     """A graph over the table that differs at some places; None where it cannot be."""
-    nodes = {name: {**node, "variants": dict(node["variants"]), "edges": dict(node["edges"])} for name, node in graph["nodes"].items()}
+    nodes = {name: {**node, "variants": dict(node["variants"]), "edges": dict(node["edges"]), "named": dict(node["named"])} for name, node in graph["nodes"].items()}
     providers = dict(graph["providers"])
     for _ in range(draw.choice((1, 1, 2))):
         name = draw.choice(list(nodes))
-        kind = draw.choice(["attribute", "variant", "edge", "provider", "leave"])
+        kind = draw.choice(["attribute", "variant", "edge", "named", "provider", "leave"])
         if kind == "attribute":
             attribute = draw.choice(["origin", "version", "compiler", "os", "target"])
             nodes[name][attribute] = draw.choice(encoding.choices[name][attribute])[0]
@@ -105,6 +105,13 @@ def changed(graph, encoding, draw):
                 some = [which for which in KINDS if draw.random() < 0.5]
                 nodes[parent]["edges"].pop(child, None)
                 nodes[parent]["edges"].update({child: some} if some else {})
+                nodes[parent]["named"] = nodes[parent]["named"] if some else {at: it for at, it in nodes[parent]["named"].items() if at != child}
+        elif kind == "named" and encoding.named:
+            parent, child = draw.choice(list(encoding.named))
+            if child in nodes.get(parent, {"edges": {}})["edges"]:
+                some = sorted(virtual for virtual, _ in encoding.named[parent, child] if draw.random() < 0.5)
+                nodes[parent]["named"].pop(child, None)
+                nodes[parent]["named"].update({child: some} if some else {})
         elif kind == "provider" and encoding.providers:
             virtual = draw.choice(list(encoding.providers))
             providers.pop(virtual, None)
@@ -114,6 +121,7 @@ def changed(graph, encoding, draw):
             del nodes[name]
             for node in nodes.values():
                 node["edges"].pop(name, None)
+                node["named"].pop(name, None)
             providers = {virtual: package for virtual, package in providers.items() if package != name}
     return {"nodes": nodes, "providers": providers}
 
@@ -148,6 +156,8 @@ def features(problem, case):
     for origin in ("external", "installed"):
         if any(value.startswith(origin) for value in origins):
             yield origin
+    if any("virtuals" in child for record in problem.graphs.by_hash.values() for child in record["dependencies"]):
+        yield "installed, over a virtual"
 
 
 class Counts:

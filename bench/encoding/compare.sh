@@ -4,6 +4,8 @@
 #   bench/encoding/compare.sh [OPTION..] FILE..      compare.py: problems of files of cases
 #   bench/encoding/compare.sh rules [OPTION..]       rules.py: for each rule a graph that keeps all, and one that breaks it
 #   bench/encoding/compare.sh required [OPTION..]    required.py: all graphs of small problems whose settings have `require`
+#   bench/encoding/compare.sh named [OPTION..]       named.py: all graphs of small problems over databases of version 2
+#   bench/encoding/compare.sh together [OPTION..]    together.py: all graphs of small problems whose recipes provide several virtuals at once
 #   bench/encoding/compare.sh times [OPTION..] FILE..     times.py: sizes and times of encodings
 #
 # Without --encode and --program it runs the builds of these sources. `--help` has the options. clasp comes with Debian and Ubuntu:
@@ -19,7 +21,7 @@ done
 
 script=compare.py
 case ${1:-} in
-rules | required | times)
+rules | required | named | together | times)
   script="$1.py"
   shift
   ;;

@@ -1,8 +1,8 @@
 """The clauses that `encode_dimacs` prints, by their comments alone, and the graphs that their models spell.
 
 A graph is a dict: `nodes`, from names to dicts with `origin` ("built", "external 0", "installed HASH"), `version`, `variants` (names to
-sorted lists of values), `compiler` ("gcc@=12.3.0" or None), `os`, `target`, `prefix` (a text or None) and `edges` (children to sorted
-lists of kinds); and `providers`, from virtuals to names.
+sorted lists of values), `compiler` ("gcc@=12.3.0" or None), `os`, `target`, `prefix` (a text or None), `edges` (children to sorted
+lists of kinds) and `named` (children to sorted lists of virtuals, where there are some); and `providers`, from virtuals to names.
 """
 import re
 import subprocess
@@ -31,6 +31,7 @@ class Encoding:
         self.choices = {}  # name: attribute: list of (value, literal)
         self.variants = {}  # name: variant: list of (value, literal)
         self.edges = {}  # (parent, child): kind: literal
+        self.named = {}  # (parent, child): list of (virtual, literal)
         self.providers = {}  # virtual: list of (package, literal)
         self.demands = {}  # the id of a clause: its demand
         self.numbers = []  # (spelling, greatest value, literals)
@@ -83,6 +84,9 @@ class Encoding:
         elif kind == "edge":
             parent, child, which = rest.split(" ")
             self.edges.setdefault((parent, child), {})[which] = int(first)
+        elif kind == "names":
+            parent, child, virtual = rest.split(" ")
+            self.named.setdefault((parent, child), []).append((virtual, int(first)))
         elif kind == "provider":
             virtual, package = rest.split(" ")
             self.providers.setdefault(virtual, []).append((package, int(first)))
@@ -110,6 +114,9 @@ class Encoding:
         for (parent, child), kinds in self.edges.items():
             for kind, literal in kinds.items():
                 yield literal, ("edge", parent, child, kind)
+        for (parent, child), choices in self.named.items():
+            for virtual, literal in choices:
+                yield literal, ("names", parent, child, virtual)
         for virtual, choices in self.providers.items():
             for package, literal in choices:
                 yield literal, ("provider", virtual, package)
@@ -156,7 +163,7 @@ class Encoding:
             if literal in true:
                 node = {attribute: one(name, choices) for attribute, choices in self.choices[name].items()}
                 some = {variant: sorted(value for value, lit in choices if lit in true) for variant, choices in self.variants[name].items()}
-                nodes[name] = {**node, "variants": {variant: values for variant, values in some.items() if values}, "edges": {}}
+                nodes[name] = {**node, "variants": {variant: values for variant, values in some.items() if values}, "edges": {}, "named": {}}
             elif any(lit in true for lit, of in self.literals() if of[0] == name):
                 raise Wrong("%s is no node, and has a choice" % name)
         for (parent, child), kinds in self.edges.items():
@@ -165,6 +172,12 @@ class Encoding:
                 if parent not in nodes or child not in nodes:
                     raise Wrong("an edge of no node: %s %s" % (parent, child))
                 nodes[parent]["edges"][child] = some
+        for (parent, child), choices in self.named.items():
+            some = sorted(virtual for virtual, literal in choices if literal in true)
+            if some:
+                if child not in nodes.get(parent, {"edges": {}})["edges"]:
+                    raise Wrong("virtuals on no edge: %s %s" % (parent, child))
+                nodes[parent]["named"][child] = some
         providers = {}
         for virtual, choices in self.providers.items():
             some = [package for package, lit in choices if lit in true]
@@ -181,6 +194,7 @@ class Encoding:
             wanted.update((name, attribute, node[attribute]) for attribute in ATTRIBUTES)
             wanted.update((name, "variant", variant, value) for variant, values in node["variants"].items() for value in values)
             wanted.update(("edge", name, child, kind) for child, kinds in node["edges"].items() for kind in kinds)
+            wanted.update(("names", name, child, virtual) for child, virtuals in node["named"].items() for virtual in virtuals)
         wanted.update(("provider", virtual, package) for virtual, package in graph["providers"].items())
         of = {}
         for literal, what in self.literals():

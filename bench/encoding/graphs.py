@@ -3,6 +3,7 @@ import base64
 import hashlib
 import itertools
 import json
+import math
 
 from encoding import ATTRIBUTES, KINDS
 
@@ -17,26 +18,27 @@ def subsets(items):
 
 def kept_node(record, by_hash):
     """The node of an installed package, with edges to its children to link or run; None where a child is not recorded, or two of one name."""
-    edges = {}
+    edges, named = {}, {}
     for child in record["dependencies"]:
         kinds = [kind for kind in KINDS if kind in child["kinds"] and kind != "build"]
         if kinds:
             if child["hash"] not in by_hash or by_hash[child["hash"]]["name"] in edges:
                 return None
             edges[by_hash[child["hash"]]["name"]] = kinds
+            named.update({by_hash[child["hash"]]["name"]: sorted(child["virtuals"])} if "virtuals" in child else {})
     compiler = record["compiler"] and "%s@=%s" % (record["compiler"]["name"], record["compiler"]["version"])
     variants = {variant: sorted(values) for variant, values in record["variants"].items()}
     return {
         "origin": "installed " + record["hash"], "version": record["version"], "compiler": compiler, "os": record["os"],
-        "target": record["target"], "prefix": record["external"], "variants": variants, "edges": edges,
+        "target": record["target"], "prefix": record["external"], "variants": variants, "edges": edges, "named": named,
     }
 
 
 class Graphs:
     """The graphs over a table, of which installed nodes are as recorded: with other attributes they would have another hash."""
 
-    def __init__(self, encoding, records):
-        self.encoding = encoding
+    def __init__(self, encoding, records, kinds=tuple(subsets(KINDS))):
+        self.encoding, self.kinds = encoding, kinds  # kinds: the sets of them that edges of other nodes are given
         self.by_hash = {record["hash"]: record for record in records}
 
     def nodes_of(self, name):
@@ -53,10 +55,15 @@ class Graphs:
             for attributes in itertools.product(*others):
                 for variants in itertools.product(*values):
                     named = {variant: some for variant, some in zip(self.encoding.variants[name], variants) if some}
-                    yield {"origin": origin, **dict(zip(ATTRIBUTES[1:], attributes)), "variants": named, "edges": None}
+                    yield {"origin": origin, **dict(zip(ATTRIBUTES[1:], attributes)), "variants": named, "edges": None, "named": None}
 
     def children(self, name, names):
         return [child for parent, child in self.encoding.edges if parent == name and child in names]
+
+    def choices(self, name, child):
+        """The kinds and virtuals that an edge may have: none of both, or some kind and any virtuals that the table has for it."""
+        virtuals = [virtual for virtual, _ in self.encoding.named.get((name, child), [])]
+        return [(list(kinds), sorted(some)) for kinds in self.kinds for some in (subsets(virtuals) if kinds else [()])]
 
     def count(self, most):
         """How many graphs there are, or some number above `most`."""
@@ -77,7 +84,7 @@ class Graphs:
         for some in subsets(names):
             product = 1
             for name in some:
-                product *= free[name] * 8 ** len(self.children(name, some)) + kept[name]
+                product *= free[name] * math.prod(len(self.choices(name, child)) for child in self.children(name, some)) + kept[name]
             for choices in self.encoding.providers.values():
                 product *= 1 + sum(package in some for package, _ in choices)
             total += product
@@ -96,14 +103,15 @@ class Graphs:
 
     def with_edges(self, name, names):
         children = self.children(name, names)
-        kinds = list(subsets(KINDS))
+        choices = [self.choices(name, child) for child in children]
         for node in self.nodes_of(name):
             if node["edges"] is not None:
                 if all(child in names for child in node["edges"]):
                     yield node
                 continue
-            for chosen in itertools.product(kinds, repeat=len(children)):
-                yield {**node, "edges": {child: list(some) for child, some in zip(children, chosen) if some}}
+            for chosen in itertools.product(*choices):
+                edges = {child: kinds for child, (kinds, _) in zip(children, chosen) if kinds}
+                yield {**node, "edges": edges, "named": {child: some for child, (_, some) in zip(children, chosen) if some}}
 
     # ---- lock files
 
@@ -140,13 +148,14 @@ class Graphs:
         if any(name not in hashes for name, _ in roots):
             raise NoLockFile("Root")
         asked = [{"hash": hashes[name], "spec": text} for name, text in roots]
-        return compact({"nodes": listed, "providers": graph["providers"], "roots": asked, "version": 1}) + "\n"
+        return compact({"nodes": listed, "providers": graph["providers"], "roots": asked, "version": 2}) + "\n"
 
     def record(self, node, name, hashes):
         compiler = None
         if node["compiler"] is not None:
             compiler = dict(zip(("name", "version"), node["compiler"].split("@=")))
-        dependencies = [{"hash": hashes[child], "kinds": kinds} for child, kinds in node["edges"].items()]
+        named = {child: {"virtuals": virtuals} for child, virtuals in node["named"].items()}
+        dependencies = [{"hash": hashes[child], "kinds": kinds, **named.get(child, {})} for child, kinds in node["edges"].items()]
         return {
             "compiler": compiler, "dependencies": sorted(dependencies, key=lambda child: child["hash"]), "external": node["prefix"],
             "name": name, "os": node["os"], "target": node["target"], "variants": node["variants"], "version": node["version"],

@@ -24,11 +24,15 @@ from graphs import compact, hash_of
 SITE = {"os": ["u", "w"], "targets": [{"name": "t", "parents": []}], "compilers": [{"name": "gcc", "version": "12"}]}
 
 
+def dependency(child, kinds, virtuals=()):
+    return {"hash": child["hash"], "kinds": list(kinds), **({"virtuals": sorted(virtuals)} if virtuals else {})}
+
+
 def record(name, version, *children, **others):
-    """An installed package, and what it was built with, as (record, kinds)."""
+    """An installed package, and what it was built with, as (record, kinds) or (record, kinds, virtuals)."""
     node = {
         "compiler": {"name": "gcc", "version": "12"}, "external": None, "name": name, "os": "u", "target": "t", "variants": {}, "version": version,
-        "dependencies": sorted(({"hash": child["hash"], "kinds": list(kinds)} for child, kinds in children), key=lambda child: child["hash"]), **others,
+        "dependencies": sorted((dependency(*child) for child in children), key=lambda child: child["hash"]), **others,
     }
     return {**node, "hash": hash_of(node)}
 
@@ -61,6 +65,18 @@ def with_edge(parent, child, *kinds):
     def change(graph):
         graph["nodes"][parent]["edges"].pop(child, None)
         graph["nodes"][parent]["edges"].update({child: list(kinds)} if kinds else {})
+        if not kinds:
+            graph["nodes"][parent]["named"].pop(child, None)
+
+    return change
+
+
+def with_names(parent, child, *virtuals):
+    """The edge names just these virtuals."""
+
+    def change(graph):
+        graph["nodes"][parent]["named"].pop(child, None)
+        graph["nodes"][parent]["named"].update({child: sorted(virtuals)} if virtuals else {})
 
     return change
 
@@ -69,9 +85,13 @@ def with_provider(virtual, name):
     return lambda graph: graph["providers"].update({virtual: name})
 
 
+def without_provider(virtual):
+    return lambda graph: graph["providers"].pop(virtual)
+
+
 def with_node(name, like, **attributes):
     """A further node, which is like another but for these attributes."""
-    return lambda graph: graph["nodes"].update({name: {**copy.deepcopy(graph["nodes"][like]), "edges": {}, "variants": {}, **attributes}})
+    return lambda graph: graph["nodes"].update({name: {**copy.deepcopy(graph["nodes"][like]), "edges": {}, "named": {}, "variants": {}, **attributes}})
 
 
 def without(name):
@@ -94,6 +114,8 @@ ZLIB1, ZLIB2 = record("z", "1"), record("z", "2")
 LIB = record("l", "1", (ZLIB1, ("link",)))
 TOOL = record("l", "1", (ZLIB1, ("build", "run")))
 KEPT = {"z": {"buildable": False}, "l": {"buildable": False}}
+OVER = record("l", "1", (ZLIB1, ("link",), ("m",)))
+NEEDS, GIVES = [*ONE, 'depends_on("m", type="link")'], [*ONE, 'provides("m")']
 
 
 def is_at(name, **attributes):
@@ -128,6 +150,11 @@ ROWS = [
     ("Edge", "none to an external", {"a": [*ONE, 'depends_on("b", type="run")'], "b": ONE}, site({"b": external("b@1", buildable=False)}), [], "a b", ANY,
      with_edge("a", "b")),
     ("Edge", "none to a provider", {"a": [*ONE, 'depends_on("m")'], "b": [*ONE, 'provides("m")']}, site(), [], "a b", ANY, with_edge("a", "b")),
+    ("Edge", "a virtual less", {"a": [*ONE, 'depends_on("m")'], "b": GIVES}, site(), [], "a", ANY, with_names("a", "b")),
+    ("ExtraEdge", "a virtual that nothing asks for there", {"a": [*TWO, 'depends_on("b")', 'depends_on("m", when="@1")'], "b": GIVES}, site(), [], "a@2", ANY,
+     both(with_names("a", "b", "m"), with_provider("m", "b"))),
+    ("ExtraEdge", "a virtual that another one provides", {"a": [*ONE, 'depends_on("b")', 'depends_on("m")'], "b": GIVES, "c": GIVES}, site(), [], "a ^c",
+     lambda graph: graph["providers"] == {"m": "c"}, with_names("a", "b", "m")),
     ("ExtraEdge", "a kind more", {"a": [*ONE, 'depends_on("b", type="build")'], "b": ONE}, site(), [], "a", ANY, with_edge("a", "b", "build", "run")),
     ("ExtraEdge", "under no condition", {"a": [*TWO, 'depends_on("z", type="link", when="@1")'], "z": ONE}, site(KEPT), [ZLIB1], "a z", is_at("a", version="2"),
      with_edge("a", "z", "link")),
@@ -159,6 +186,14 @@ ROWS = [
     ("Kept", "an external of another version", {"a": TWO}, site({"a": external("a@1")}), [], "a", is_at("a", origin="external 0"), at("a", version="2")),
     ("Kept", "an external with an edge", {"a": [*ONE, 'depends_on("b")'], "b": ONE}, site({"a": external("a@1")}), [], "a b", is_at("a", origin="external 0"),
      with_edge("a", "b", "link")),
+    ("Kept", "a recorded virtual of another provider", {"a": [*ONE, 'depends_on("l")', 'depends_on("m")'], "l": NEEDS, "z": GIVES, "c": GIVES}, site(KEPT),
+     [ZLIB1, OVER], "a", ANY, both(with_edge("a", "z"), with_node("c", "a", version="1"), with_edge("a", "c", "build", "link"), with_names("a", "c", "m"),
+                                   with_provider("m", "c"))),
+    ("Kept", "a recorded virtual without a provider", {"l": NEEDS, "z": GIVES}, site(KEPT), [ZLIB1, OVER], "l", ANY, without_provider("m")),
+    ("no lock file: Kept", "a recorded virtual is passed over", {"l": NEEDS, "z": GIVES}, site(KEPT), [ZLIB1, OVER], "l", ANY,
+     both(with_names("l", "z"), without_provider("m"))),
+    ("no lock file: Kept", "a virtual that is not recorded", {"l": NEEDS, "z": GIVES}, site(KEPT), [ZLIB1, LIB], "l", ANY,
+     both(with_names("l", "z", "m"), with_provider("m", "z"))),
     ("no lock file: Kept", "an installed node of another OS", {"z": ONE}, site(KEPT), [ZLIB1], "z", ANY, at("z", os="w")),
     ("no lock file: Kept", "an installed node without its child", {"l": ONE, "z": ONE}, site(KEPT), [ZLIB1, LIB], "l z", ANY, with_edge("l", "z")),
     ("no lock file: Kept", "an installed node with its child for building", {"l": ONE, "z": ONE}, site(KEPT), [ZLIB1, TOOL], "l z", ANY,
@@ -167,6 +202,10 @@ ROWS = [
      at("z", version="2", origin="installed " + ZLIB2["hash"])),
     ("Provider", "no provision holds there", {"a": [*ONE, 'variant("v", default=False)', 'depends_on("m", when="+v")'], "b": [*TWO, 'provides("m", when="@2")']},
      site(), [], "a~v b@1", ANY, with_provider("m", "b")),
+    ("Provider", "of an installed node, which provides it no more", {"l": NEEDS, "z": [*TWO, 'provides("m", when="@2")']}, site(), [ZLIB1, OVER], "l",
+     is_at("l", origin="built", os="u"),
+     both(at("l", origin="installed " + OVER["hash"]), at("z", origin="installed " + ZLIB1["hash"], version="1", os="u"), with_edge("l", "z", "link"))),
+    ("UnusedProvider", "the child of an installed node that names nothing", {"l": NEEDS, "z": GIVES}, site(KEPT), [ZLIB1, LIB], "l", ANY, with_provider("m", "z")),
     ("UnusedProvider", "nothing asks for it", {"a": [*ONE, 'variant("v", default=False)', 'depends_on("m", when="+v")'], "b": [*TWO, 'provides("m", when="@2")']},
      site(), [], "a~v b@2", ANY, with_provider("m", "b")),
     ("UnusedProvider", "an external that nothing asks for", {"a": [*ONE, 'variant("v", default=False)', 'depends_on("m", when="+v")'], "b": [*ONE, 'provides("m")']},
@@ -188,7 +227,7 @@ ROWS = [
 
 def files_of(recipes, settings, records):
     texts = {"r/packages/%s/package.py" % name: "class %s(Package):\n" % name.upper() + "".join("    %s\n" % line for line in lines) for name, lines in recipes.items()}
-    texts |= {"s": compact(settings), "d": compact({"records": records, "version": 1}), "r/packages/other/package.py": 'class Other(Package):\n    version("1")\n'}
+    texts |= {"s": compact(settings), "d": compact({"records": records, "version": 2}), "r/packages/other/package.py": 'class Other(Package):\n    version("1")\n'}
     return {path: base64.b64encode(text.encode()).decode() for path, text in texts.items()}
 
 

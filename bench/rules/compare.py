@@ -4,9 +4,9 @@
     bench/rules/compare.py [FOLDER]
 
 cases.tar.gz holds random problems, each with a graph, and what that reading says of them: whether each rule is kept, each
-demand in its order, the 31 numbers, and the first broken rule. Each is a theorem by computation. They are put into a scratch
-repository (FOLDER, or a temporary one) over copies of this repository's crates, as a crate `compared`, and proved there, apart
-from the gate. The last line says how many theorems there are. It takes some minutes where nothing of the crates is kept.
+demand in its order, the 31 numbers, and the first broken rule; it is older than the virtuals of edges, which are named as for a
+lock file of version 1. Each is a theorem by computation. They are put into a scratch repository (FOLDER, or a temporary one) over
+copies of this repository's crates, as a crate `compared`, and proved there, apart from the gate. The last line says how many theorems there are. It takes some minutes where nothing of the crates is kept.
 """
 import os
 import re
@@ -44,10 +44,12 @@ use Rattle.recipe_data.specs.declared.recipe.DependRow.{DependRow}
 use Rattle.recipe_data.specs.declared.recipe.ProvideRow.{ProvideRow}
 use Rattle.recipe_data.specs.declared.recipe.ConflictRow.{ConflictRow}
 use Rattle.recipe_data.specs.declared.recipe.RequireRow.{RequireRow}
+use Rattle.reuse_db.specs.declared.record.Dependency.{Dependency}
 use Rattle.reuse_db.specs.declared.record.Record.{Record}
 use Rattle.problem.specs.Problems.{Problem}
 use Rattle.problem.specs.Demands.{demands}
 use Rattle.problem.specs.Assembled.{is_assembled}
+use Rattle.graph_rules.specs.Named.{named}
 use Rattle.graph_rules.specs.Valid.{keeps, keeps_demand}
 use Rattle.graph_rules.specs.declared.rule.Rule.{Rule}
 use Rattle.graph_rules.specs.declared.rule.Rule.TheVariants as which
@@ -92,7 +94,7 @@ abbrev pub compiler : Text → Text → Compiler
 compiler n v = record { name = n; version = v }
 
 abbrev pub settings : Text → List Text → List TargetEntry → List CompilerEntry → List (Text × List Text) → List PackageEntry → Settings
-settings p o t c v ps = record { platform = p; conflict_budget = 7; os = o; targets = t; compilers = c; providers = v; packages = ps }
+settings p o t c v ps = record { platform = p; conflict_budget = 7; os = o; targets = t; compilers = c; providers = v; provided_together = false; packages = ps }
 
 abbrev pub entry : Text → List Text → TargetEntry
 entry n p = record { name = n; parents = p }
@@ -106,8 +108,12 @@ package_entry n v b e = record { name = n; versions = v; buildable = b; external
 abbrev pub external : Text → List (Text × List Text) → Option Compiler → Option Text → Option Text → Text → ExternalEntry
 external v vs c o t p = record { version = v; variants = vs; compiler = c; os = o; target = t; prefix = p }
 
+-- the cases were written before dependencies named virtuals
+abbrev pub dependency : Text × Kinds → Dependency
+dependency d = record { hash = d.0; kinds = d.1; virtuals = [] }
+
 abbrev pub entry_of_db : Text → Text → Text → List (Text × List Text) → Option Compiler → Text → Text → Option Text → List (Text × Kinds) → Record
-entry_of_db h n v vs c o t e d = record { hash = h; name = n; version = v; variants = vs; compiler = c; os = o; target = t; external = e; dependencies = d }
+entry_of_db h n v vs c o t e d = record { hash = h; name = n; version = v; variants = vs; compiler = c; os = o; target = t; external = e; dependencies = map dependency d }
 
 abbrev pub problem : List Recipe → Settings → List Record → List Spec → Problem
 problem r s d ss = record { recipes = r; settings = s; database = d; roots = ss }
@@ -116,7 +122,7 @@ abbrev pub node : Text → Text → List (Text × List Text) → Option Compiler
 node n v vs c o t p r = record { name = n; version = v; variants = vs; compiler = c; os = o; target = t; prefix = p; origin = r }
 
 abbrev pub edge : Text → Text → Kinds → Edge
-edge p c k = record { parent = p; child = c; kinds = k }
+edge p c k = record { parent = p; child = c; kinds = k; virtuals = [] }
 
 abbrev pub graph : List Node → List Edge → List (Text × Text) → Content
 graph n e p = record { nodes = n; edges = e; providers = p }
@@ -129,14 +135,18 @@ pub record Answers : Type 0 where
   pub vector : List ℕ
   pub verdict : Verdict
 
--- all but Required, which the cases were written before: their settings require nothing
+-- all but Required and Together, which the cases were written before: their settings ask for neither
 abbrev pub older_rules : List Rule
 older_rules =
     which.Root ∷ which.Buildable ∷ which.Version ∷ which.Variant ∷ which.Compiler ∷ which.Machine ∷ which.Edge ∷ which.ExtraEdge ∷ which.Constraint
     ∷ which.Conflict ∷ which.Requirement ∷ which.Kept ∷ which.Provider ∷ which.UnusedProvider ∷ which.Cycle ∷ which.Unreachable ∷ []
 
+abbrev pub answered : Problem → Content → Answers
+answered p g = record { is_assembled = is_assembled p; is_graph = is_graph g; rules = map (λ rule. keeps rule p g) older_rules; demands = map (keeps_demand p g) (demands p); vector = vector p g; verdict = verdict p g }
+
+-- their edges name what those of a lock file of version 1 name
 abbrev pub answers : Problem → Content → Answers
-answers p g = record { is_assembled = is_assembled p; is_graph = is_graph g; rules = map (λ rule. keeps rule p g) older_rules; demands = map (keeps_demand p g) (demands p); vector = vector p g; verdict = verdict p g }
+answers p g = answered p (named p g)
 """
 
 # what the cases were written over, and what stands for it here

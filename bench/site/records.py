@@ -21,13 +21,15 @@ def compact(data):
 
 
 def children(repository, package):
-    """The packages that the planted graph links it to, or that it runs with, and as what."""
+    """The packages that the planted graph links it to, or that it runs with: as what, and what they provide to it."""
     found = {}
     for name, _, _, kinds, holds in package.depends:
         if holds and kinds != '"build"':
             name = name.split("@")[0]
-            name = shape.VIRTUALS[name][0][0] if name in shape.VIRTUALS else name
-            found[name] = sorted({*found.get(name, ()), *(RUN if "run" in kinds else LINK)})
+            child = shape.VIRTUALS[name][0][0] if name in shape.VIRTUALS else name
+            before, virtuals = found.get(child, ((), ()))
+            own = {name} if name in shape.VIRTUALS else set()
+            found[child] = sorted({*before, *(RUN if "run" in kinds else LINK)}), sorted({*virtuals, *own})
     return found
 
 
@@ -48,7 +50,7 @@ def record(repository, name, generation, hashes):
     package = repository.packages[name]
     behind, compiler, target = GENERATIONS[generation]
     version = package.versions[min(len(package.versions) - 1, package.chosen + behind)]
-    kinds = {hashes[child]: kinds for child, kinds in children(repository, package).items()}
+    edges = {hashes[child]: each for child, each in children(repository, package).items()}
     made = {
         "name": name,
         "version": version_text(version),
@@ -57,7 +59,7 @@ def record(repository, name, generation, hashes):
         "os": "rocky9",
         "target": target,
         "external": None,
-        "dependencies": [{"hash": child, "kinds": kinds[child]} for child in sorted(kinds)],
+        "dependencies": [{"hash": child, "kinds": kinds} | ({"virtuals": virtuals} if virtuals else {}) for child, (kinds, virtuals) in sorted(edges.items())],
     }
     digest = hashlib.sha256(compact(made).encode()).digest()[:20]
     return made | {"hash": base64.b32encode(digest).decode().lower()}
@@ -80,4 +82,4 @@ def database(repository, count, seed):
         if len(made) >= count:
             break
     unique = {it["hash"]: it for it in made.values()}  # where no older version is there, two generations are one
-    return {"records": list(unique.values()), "version": 1}
+    return {"records": list(unique.values()), "version": 2}

@@ -33,6 +33,7 @@ class Problem:
     numbers: list[tuple[str, int, list[int]]] = field(default_factory=list)  # spelling, greatest value, literals
     names: dict[str, Choices] = field(default_factory=dict)
     edges: dict[tuple[str, str], dict[str, int]] = field(default_factory=dict)  # (parent, child): kind: literal
+    named: dict[tuple[str, str], list[tuple[str, int]]] = field(default_factory=dict)  # (parent, child): virtuals that the edge may name
     providers: dict[str, list[tuple[str, int]]] = field(default_factory=dict)
     roots: dict[int, str] = field(default_factory=dict)  # the canonical texts of the requested specs
 
@@ -76,6 +77,9 @@ def read_comment(problem: Problem, words: str) -> None:
     elif kind == "edge":
         parent, child, which = rest.split(" ")
         problem.edges.setdefault((parent, child), {})[which] = int(first)
+    elif kind == "names":
+        parent, child, virtual = rest.split(" ")
+        problem.named.setdefault((parent, child), []).append((virtual, int(first)))
     elif kind == "provider":
         virtual, package = rest.split(" ")
         problem.providers.setdefault(virtual, []).append((package, int(first)))

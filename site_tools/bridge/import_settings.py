@@ -109,7 +109,9 @@ def settings_of(given: argparse.Namespace, notes: Notes) -> dict:
     notes.file = packages_file
     settings = {"platform": given.platform, "os": systems, "targets": table, "compilers": compilers}
     site = site_of(given, [each["name"] for each in table])
-    return {**settings, **settings_packages.read(packages, site, notes)}
+    # Spack's solver takes the names of one `provides` together
+    read = settings_packages.read(packages, site, notes)
+    return {**settings, "providers": read["providers"], "provided_together": True, "packages": read["packages"]}
 
 
 def site_of(given: argparse.Namespace, names: list[str]) -> settings_packages.Site:
@@ -132,7 +134,7 @@ def text_of(settings: dict) -> str:
     """The settings as a file that can be read: one line for each entry of a list or map."""
     parts = []
     for key, value in settings.items():
-        if isinstance(value, str) or not value:
+        if isinstance(value, (str, bool)) or not value:
             parts.append(f"  {json.dumps(key)}: {json.dumps(value)}")
             continue
         is_list = isinstance(value, list)

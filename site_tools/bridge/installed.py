@@ -11,8 +11,10 @@ from pathlib import Path
 from typing import Any, Optional
 
 from . import json_files, records, signs
+from .catalog import Catalog
 from .records import Record
 from .rows import Cannot
+from .shown import shown as shown_text
 from .spec_text import COMPILER_OF_PACKAGE
 
 LANGUAGES = {"c", "cxx", "fortran"}
@@ -32,6 +34,8 @@ class Import:
     refused: dict[str, str] = field(default_factory=dict)
     parts: dict[str, list[str]] = field(default_factory=dict)
     open: set[str] = field(default_factory=set)
+    provided: Optional[frozenset[str]] = None  # by the recipes, where they are known
+    unknown: set[str] = field(default_factory=set)  # virtuals of the index that no recipe provides
 
 
 def children_of(spec: dict) -> list[dict]:
@@ -96,9 +100,22 @@ def checked(record: Record) -> Record:
     return record
 
 
+def named_on(child: dict, found: Import) -> list[str]:
+    """What a child provides, but for languages: a compiler is no package of the profile, and no recipe asks for `c`."""
+    virtuals = [str(each) for each in child["virtuals"] if each not in LANGUAGES]
+    if found.provided is not None:
+        found.unknown.update(set(virtuals) - found.provided)
+        virtuals = [each for each in virtuals if each in found.provided]
+    strange = [each for each in virtuals if not signs.is_name(each)]
+    if strange:
+        raise Cannot("a virtual beyond the profile", f"`{strange[0]}`")
+    return virtuals
+
+
 def dependencies_of(spec: dict, found: Import) -> list[dict]:
     """The dependencies with their new hashes; a child for building alone may be no record, and keeps its old hash."""
     kinds_of: dict[str, list[str]] = {}
+    named: dict[str, set[str]] = {}
     for child in children_of(spec):
         kinds = [kind for kind in records.KINDS if kind in child["kinds"]]
         new = read(child["hash"], found) if child["hash"] in found.installs else None
@@ -106,7 +123,8 @@ def dependencies_of(spec: dict, found: Import) -> list[dict]:
             raise Cannot("a link or run child that is left out", child["name"])
         if kinds:
             kinds_of.setdefault(new or child["hash"], []).extend(kinds)
-    return [{"hash": each, "kinds": [kind for kind in records.KINDS if kind in kinds_of[each]]} for each in sorted(kinds_of)]
+            named.setdefault(new or child["hash"], set()).update(named_on(child, found))
+    return [records.dependency(each, kinds_of[each], named[each]) for each in sorted(kinds_of)]
 
 
 def record_of(old: str, found: Import) -> Record:
@@ -183,14 +201,14 @@ def child_hashes(install: Any) -> list[str]:
         return []
 
 
-def import_all(index: dict, platform: str, strict: bool = False) -> Import:
+def import_all(index: dict, platform: str, strict: bool = False, provided: Optional[frozenset[str]] = None) -> Import:
     """All installed packages of an index."""
-    found = Import(platform, index["database"]["installs"])
+    found = Import(platform, index["database"]["installs"], provided=provided)
     for old in children_first(found.installs):
         read(old, found)
     if strict and found.parts:
         kept = {old: each for old, each in found.installs.items() if old not in found.parts}
-        again = import_all({"database": {"installs": kept}}, platform)
+        again = import_all({"database": {"installs": kept}}, platform, provided=provided)
         again.refused.update({old: "parts that cannot be said, under --strict" for old in found.parts})
         again.installs = found.installs
         return again
@@ -208,7 +226,7 @@ def add_cache(index: dict, cache: dict) -> None:
 def database_text(found: Import) -> str:
     """The database as a file: records by name, then by hash."""
     rows = sorted(found.found.values(), key=lambda record: (record["name"], record["hash"]))
-    return '{"records":[\n' + ",\n".join(map(records.compact, rows)) + '\n],"version":1}\n'
+    return '{"records":[\n' + ",\n".join(map(records.compact, rows)) + '\n],"version":2}\n'
 
 
 def table_text(found: Import) -> str:
@@ -233,11 +251,21 @@ def report_text(found: Import) -> str:
         f"{len(found.refused)} left out, {len(found.parts)} with parts left out",
         f"Left out of all: {', '.join(NOT_SAID)}.",
     ]
+    unknown = ", ".join(map(shown_text, sorted(found.unknown)))
+    lines += [f"Virtuals that no recipe provides, left out of all edges: {unknown}."] * bool(unknown)
     lines += ["", "Left out"] * bool(found.refused)
     lines += [f"    {shown(old, found)}: {found.refused[old]}" for old in sorted(found.refused, key=lambda old: shown(old, found))]
     lines += ["", "Taken without"] * bool(found.parts)
     lines += [f"    {shown(old, found)}: {'; '.join(found.parts[old])}" for old in sorted(found.parts, key=lambda old: shown(old, found))]
     return "\n".join(lines) + "\n"
+
+
+def provided_in(repo: Path) -> frozenset[str]:
+    """The virtuals that recipes provide; `Cannot` where there is no recipe."""
+    catalog = Catalog(str(repo))
+    if not catalog.recipes:
+        raise Cannot("no recipes", f"{repo} has no packages/NAME/package.py")
+    return frozenset(catalog.virtuals)
 
 
 def main(words: Optional[list[str]] = None) -> int:
@@ -251,13 +279,17 @@ def main(words: Optional[list[str]] = None) -> int:
         "--cache", type=Path, action="append", default=[], metavar="INDEX_JSON",
         help="index.json of a build cache: what is there counts as installed",
     )
+    parser.add_argument("--repo", type=Path, metavar="OUT", help="the imported recipes: virtuals that none of them provides are left out")
     parser.add_argument("--strict", action="store_true", help="leave out each record of which a part cannot be said")
     given = parser.parse_args(words)
     try:
         index = json_files.read(given.index)
         for path in given.cache:
             add_cache(index, json_files.read(path))
-        found = import_all(index, given.platform, given.strict)
+        found = import_all(index, given.platform, given.strict, provided_in(given.repo) if given.repo else None)
+    except Cannot as fault:
+        print(f"import_installed: {fault}", file=sys.stderr)
+        return 2
     except (OSError, ValueError, KeyError, TypeError, AttributeError) as fault:
         print(f"import_installed: {given.index} is no index of Spack's: {fault}", file=sys.stderr)
         return 2

@@ -9,6 +9,7 @@ from typing import Any, Iterator
 from . import json_files, records
 
 Node = dict[str, Any]
+VERSIONS = (1, 2)
 
 
 class NoLock(ValueError):
@@ -22,6 +23,7 @@ class Lock:
     nodes: dict[str, Node]  # by hash
     roots: list[tuple[str, str]]  # the text of a spec, and its node's hash
     providers: dict[str, str]
+    version: int = 2  # in 1 no edge names what its child provides
 
     def by_name(self) -> dict[str, Node]:
         """The nodes by their names, in byte order."""
@@ -35,6 +37,10 @@ class Lock:
             if kinds and child["hash"] in self.nodes:
                 found.append((self.nodes[child["hash"]], kinds))
         yield from sorted(found, key=lambda pair: pair[0]["name"])
+
+    def named(self, node: Node, child: Node) -> list[str]:
+        """The virtuals that the edge to a child names: what the child provides to this node."""
+        return next((sorted(each.get("virtuals", [])) for each in node["dependencies"] if each["hash"] == child["hash"]), [])
 
     def provided_by(self, name: str) -> list[str]:
         """The virtuals that a package provides in this graph."""
@@ -50,9 +56,11 @@ def read(path: Path) -> Lock:
         for node in value["nodes"]:
             if records.hash_of(node) != node["hash"]:
                 raise NoLock(f"{path}: {node['name']} was changed without its hash")
-        if value["version"] != 1 or not all(hash in nodes for _, hash in roots):
-            raise NoLock(f"{path} is no lock file of version 1")
-        return Lock(nodes, roots, value["providers"])
+        if value["version"] not in VERSIONS or not all(hash in nodes for _, hash in roots):
+            raise NoLock(f"{path} is no lock file of version 1 or 2")
+        if value["version"] == 1 and any("virtuals" in child for node in value["nodes"] for child in node["dependencies"]):
+            raise NoLock(f"{path}: an edge names virtuals, which version 1 has not")
+        return Lock(nodes, roots, value["providers"], value["version"])
     except NoLock:
         raise
     except (ValueError, KeyError, TypeError, AttributeError) as fault:

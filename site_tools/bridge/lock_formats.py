@@ -13,21 +13,21 @@ def tree_lines(lock: Lock) -> list[str]:
     shown: set[str] = set()
     lines: list[str] = []
 
-    def show(node: Node, kinds: str, depth: int) -> None:
+    def show(node: Node, kinds: str, sign: str, depth: int) -> None:
         """A node, and what it depends on where that was not shown."""
         again = node["hash"] in shown
         name = f"{node['name']}@{node['version']}" if again else node_texts.spec_text(node, "")
         front = f"{node_texts.MARKS[node['origin']]}  {node['hash'][:7]}  {kinds}  "
-        provided = lock.provided_by(node["name"])
+        provided = lock.provided_by(node["name"]) if lock.version == 1 else []
         note = "" if again or not provided else f"  (as {', '.join(provided)})"
-        lines.append(front + "    " * depth + ("^" if depth else "") + name + note)
+        lines.append(front + "    " * depth + sign + name + note)
         shown.add(node["hash"])
         for child, below in [] if again else lock.children(node):
-            show(child, node_texts.kinds_text(below), depth + 1)
+            show(child, node_texts.kinds_text(below), node_texts.below_sign(lock.named(node, child)), depth + 1)
 
     for spec, hash in lock.roots:
         lines += ["", spec, "-" * 32]
-        show(lock.nodes[hash], "[   ]", 0)
+        show(lock.nodes[hash], "[   ]", "", 0)
     return lines[1:]
 
 
@@ -57,7 +57,8 @@ def dot_lines(lock: Lock) -> list[str]:
         lines.append(f'  "{node["name"]}" [label="{label}", fillcolor="{COLOURS[node["origin"]]}"{width}];')
         for child, kinds in lock.children(node):
             style = ", style=dashed" if kinds == ["build"] else ""
-            lines.append(f'  "{node["name"]}" -> "{child["name"]}" [label="{", ".join(kinds)}"{style}];')
+            label = node_texts.edge_text(kinds, lock.named(node, child)).replace(" as ", "\\nas ")
+            lines.append(f'  "{node["name"]}" -> "{child["name"]}" [label="{label}"{style}];')
     return lines + ["}"]
 
 
@@ -66,7 +67,11 @@ def json_lines(lock: Lock) -> list[str]:
     found: dict[str, Any] = {}
     for name, node in lock.by_name().items():
         rest = {key: node[key] for key in ("version", "variants", "compiler", "os", "target", "origin", "external", "hash")}
-        found[name] = {**rest, "dependencies": {child["name"]: kinds for child, kinds in lock.children(node)}}
+        named = {child["name"]: lock.named(node, child) for child, _ in lock.children(node)}
+        found[name] = {
+            **rest, "dependencies": {child["name"]: kinds for child, kinds in lock.children(node)},
+            "virtuals": {child: virtuals for child, virtuals in named.items() if virtuals},
+        }
     roots = [{"spec": spec, "package": lock.nodes[hash]["name"]} for spec, hash in lock.roots]
     whole = {"roots": roots, "providers": lock.providers, "packages": found}
     return json.dumps(whole, indent=1, sort_keys=True, ensure_ascii=False).splitlines()
@@ -77,7 +82,8 @@ def facts(lock: Lock, node: Node) -> dict[str, str]:
     found = {"version": node["version"], "compiler": node_texts.compiler_text(node) or "none", "os": node["os"]}
     found.update({"target": node["target"], "origin": node_texts.origin_text(node)})
     found.update({f"variant {name}": ",".join(sorted(values)) for name, values in node["variants"].items()})
-    found.update({f"edge to {child['name']}": ", ".join(kinds) for child, kinds in lock.children(node)})
+    edges = {child["name"]: node_texts.edge_text(kinds, lock.named(node, child)) for child, kinds in lock.children(node)}
+    found.update({f"edge to {name}": text for name, text in edges.items()})
     return found
 
 

@@ -90,7 +90,8 @@ class Locker:
             if found:
                 record["variants"][variant] = found
         for child, kinds in self.edges.get(name, {}).items():
-            record["dependencies"].append({"hash": self.made[child]["hash"], "kinds": kinds})
+            named = [virtual for virtual, literal in self.problem.named.get((name, child), []) if is_true(self.values, literal)]
+            record["dependencies"].append(records.dependency(self.made[child]["hash"], kinds, named))
         record["dependencies"].sort(key=lambda child: child["hash"])
         return record
 
@@ -113,4 +114,4 @@ def lock_text(problem: Problem, values: list[bool], database: Optional[Path]) ->
         for package, literal in some:
             if is_true(values, literal):
                 providers[virtual] = package
-    return records.compact({"nodes": nodes, "providers": providers, "roots": roots, "version": 1}) + "\n"
+    return records.compact({"nodes": nodes, "providers": providers, "roots": roots, "version": 2}) + "\n"

@@ -31,6 +31,16 @@ def kinds_text(kinds: list[str]) -> str:
     return "[" + "".join(letter if kind in kinds else " " for kind, letter in LETTERS) + "]"
 
 
+def below_sign(virtuals: list[str]) -> str:
+    """What stands before a child: `^`, or `^mpi=` where it provides mpi to its parent."""
+    return "^" + (",".join(virtuals) + "=" if virtuals else "")
+
+
+def edge_text(kinds: list[str], virtuals: list[str]) -> str:
+    """The kinds of an edge, and what its child provides there: `build, link as mpi`."""
+    return ", ".join(kinds) + (f" as {', '.join(virtuals)}" if virtuals else "")
+
+
 def origin_text(node: dict[str, Any]) -> str:
     """Where a node comes from, in words."""
     if node["origin"] == "external":

@@ -5,7 +5,7 @@ Computes hashes; never takes one on trust.
 import base64
 import hashlib
 import json
-from typing import Any
+from typing import Any, Collection
 
 from . import signs
 
@@ -25,10 +25,14 @@ def canonical(node: Record) -> str:
     variants = node["variants"].items()
     record["variants"] = {name: sorted(map(signs.as_value, values)) for name, values in variants}
     children = sorted(node["dependencies"], key=lambda child: child["hash"])
-    record["dependencies"] = [
-        {"hash": child["hash"], "kinds": [kind for kind in KINDS if kind in child["kinds"]]} for child in children
-    ]
+    record["dependencies"] = [dependency(child["hash"], child["kinds"], child.get("virtuals", [])) for child in children]
     return compact(record)
+
+
+def dependency(hash: str, kinds: Collection[str], virtuals: Collection[str]) -> Record:
+    """A dependency as it is written: kinds and virtuals in order, and no key for virtuals where there are none."""
+    named = {"virtuals": sorted(virtuals)} if virtuals else {}
+    return {"hash": hash, "kinds": [kind for kind in KINDS if kind in kinds], **named}
 
 
 def hash_of(node: Record) -> str:

@@ -30,7 +30,7 @@ class LockImport:
     def text(self) -> str:
         """The lock file."""
         nodes = sorted(self.nodes, key=lambda node: node["name"].encode())
-        return records.compact({"nodes": nodes, "providers": self.providers, "roots": self.roots, "version": 1}) + "\n"
+        return records.compact({"nodes": nodes, "providers": self.providers, "roots": self.roots, "version": 2}) + "\n"
 
 
 def is_language(child: dict) -> bool:

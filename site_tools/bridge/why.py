@@ -34,7 +34,9 @@ def asking_lines(name: str, lock: Lock, catalog: Optional[Catalog]) -> list[str]
     for parent in lock.by_name().values():
         for child, kinds in lock.children(parent):
             if child["name"] == name:
-                lines.append(f"  {parent['name']}, {', '.join(KINDS[kind] for kind in kinds)}")
+                named = lock.named(parent, child)
+                answer = f", as {', '.join(named)}" if named else ""
+                lines.append(f"  {parent['name']}, {', '.join(KINDS[kind] for kind in kinds)}{answer}")
                 lines += [f"      {each}" for each in directives_for(parent, child, lock, catalog)]
     return lines
 

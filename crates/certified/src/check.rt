@@ -1,5 +1,5 @@
 //! The check of a whole log, in blocks.
-ghost use Rattle.std.specs.Prelude.{◌≡◌, ◌↔◌, ℕ, Bool, IfOk, OnOk};
+ghost use Rattle.std.specs.Prelude.{◌≡◌, ◌↔◌, ℕ, Bool, Some, IfOk, OnOk};
 ghost use Rattle.std.specs.Option.{option_map};
 ghost use Rattle.clause_store.specs.Lits.{IsClause};
 ghost use Rattle.clause_store.specs.Clauses.{clauses_of};
@@ -7,7 +7,7 @@ ghost use Rattle.proof_log.specs.Known.{AllClauses};
 ghost use Rattle.proof_log.specs.Lines.{AllLines, OfLearnt};
 ghost use Rattle.proof_log.specs.Certificates.{bits_at, IsBelow, IsCertificate, IsRefutation};
 ghost use Rattle.log_checker.specs.declared.step.Step.TheVariants.{Accepted};
-ghost use Rattle.log_checker.specs.Steps.{Going, starting_state, run_lines, finish_on};
+ghost use Rattle.log_checker.specs.Steps.{Going, begun, run_lines, finish_on};
 ghost use Rattle.log_checker.specs.Kinds.{IsLogOf};
 ghost use Rattle.certified.specs.Encodings.{MeetsAll};
 
@@ -63,6 +63,8 @@ fn check<R: Threads + Sync>(
     values: Option<&[bool]>,
     lines: &[Line],
 ) -> Result<Step, AllocError>
+    ensures steps { IfOk result (λ step. step ≡ finish_on (run_lines (Going (begun clauses.now bits.now
+        (option_map (λ v. v.now) values.entry))) lines.now)) }
     ensures exact { IfOk result (λ step. (step ≡ Accepted)
         ↔ IsLogOf clauses.now.vars (clauses_of clauses.now.entries) bits.now
         (option_map (λ v. v.now) values.entry) lines.now) }
@@ -75,7 +77,7 @@ fn check<R: Threads + Sync>(
 }
 
 /// Whether the lines are a certificate that no assignment that meets the clauses has smaller bits than
-/// these values; they may come from anywhere.
+/// these values; they may come from anywhere. Where they are not, which line is refused, and why.
 pub fn check_certificate<R: Threads + Sync>(
     rt: &R,
     alloc: Global,
@@ -84,6 +86,8 @@ pub fn check_certificate<R: Threads + Sync>(
     values: &[bool],
     lines: &[Line],
 ) -> Result<Step, AllocError>
+    ensures steps { IfOk result (λ step. step ≡ finish_on (run_lines (Going (begun clauses.now bits.now
+        (Some values.now))) lines.now)) }
     ensures exact { IfOk result (λ step. (step ≡ Accepted)
         ↔ IsCertificate clauses.now.vars (clauses_of clauses.now.entries) bits.now values.now
         lines.now) }

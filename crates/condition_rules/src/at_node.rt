@@ -46,7 +46,9 @@ fn all_meet(world: &World, specs: &[Spec], node: &Node) -> bool
     specs.iter().all(|spec| meets(world, &spec.top, node))
 }
 
-fn row_provides(
+/// Whether a row of `provides` says that the node provides a virtual for a list of versions; without
+/// one, for any.
+pub fn row_provides(
     world: &World,
     node: &Node,
     name: &str,

@@ -16,7 +16,7 @@ mod search;
 mod theorems;
 mod world;
 
-pub use at_node::{meets, meets_rest, provides};
+pub use at_node::{meets, meets_rest, provides, row_provides};
 pub use in_graph::{all_hold, asked_node, governing, holds, suits};
 pub use paths::Paths;
 pub use theorems::condition_laws;

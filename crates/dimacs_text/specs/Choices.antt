@@ -50,14 +50,18 @@ abbrev pub block_text : Block → List ℕ
 block_text b = package_text b ++ machine_text b
 
 unfoldable pub kind_text : List ℕ → List ℕ → List ℕ
-kind_text child kind = codes " " ++ (child ++ (codes " " ++ kind))
+kind_text child word = codes " " ++ (child ++ (codes " " ++ word))
 
--- an edge by its parent, its child and each kind
+-- that an edge names a virtual
+abbrev pub name_line : EdgeLits → List ℕ × Lit → List ℕ
+name_line e choice = choice_line choice.1 (codes "names") e.parent (kind_text e.child choice.0)
+
+-- an edge by its parent, its child and each kind, and each virtual that it may name
 unfoldable pub edge_text : EdgeLits → List ℕ
 edge_text e =
     choice_line e.build (codes "edge") e.parent (kind_text e.child (codes "build"))
     ++ (choice_line e.link (codes "edge") e.parent (kind_text e.child (codes "link"))
-    ++ choice_line e.run (codes "edge") e.parent (kind_text e.child (codes "run")))
+    ++ (choice_line e.run (codes "edge") e.parent (kind_text e.child (codes "run")) ++ flat_map (name_line e) e.virtuals))
 
 -- a virtual, and which package provides it
 abbrev pub provider_text : ProviderLits → List ℕ

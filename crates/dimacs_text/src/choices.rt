@@ -155,42 +155,60 @@ fn write_block(alloc: Global, block: &Block, out: &mut Vec<u8>) -> Result<(), Al
     write_machine(alloc, block, out)
 }
 
-/// One kind of an edge.
+/// A choice at an edge: of a kind of it, or of a virtual that it names.
 #[tactic(auto, unfolding(crate::specs::Choices::kind_text))]
-fn write_kind(
+fn write_at_edge(
     alloc: Global,
     edge: &EdgeLits,
-    kind: &str,
+    choice: &str,
+    word: &str,
     lit: Lit,
     out: &mut Vec<u8>,
 ) -> Result<(), AllocError>
     ensures { OnOk result (out.new.items ≡ out.old.items
-        ++ lines.choice_line lit (codes "edge") edge.now.parent
-        (lines.kind_text edge.now.child kind.now)) }
+        ++ lines.choice_line lit choice.now edge.now.parent
+        (lines.kind_text edge.now.child word.now)) }
 {
     let mut words = Vec::new(alloc);
     words.extend_from_slice(b" ")?;
     words.extend_from_slice(edge.child.as_str().as_bytes())?;
     words.extend_from_slice(b" ")?;
-    words.extend_from_slice(kind.as_bytes())?;
+    words.extend_from_slice(word.as_bytes())?;
     write_line(
         alloc,
         lit,
-        "edge",
+        choice,
         edge.parent.as_str(),
         words.as_slice(),
         out,
     )
 }
 
-/// The kinds of an edge.
+/// The virtuals that an edge may name.
+fn write_names(
+    alloc: Global,
+    edge: &EdgeLits,
+    virtuals: &[(Word, Lit)],
+    out: &mut Vec<u8>,
+) -> Result<(), AllocError>
+    ensures { OnOk result (out.new.items ≡ out.old.items
+        ++ flat_map (lines.name_line edge.now) virtuals.now) }
+{
+    for choice in virtuals {
+        write_at_edge(alloc, edge, "names", choice.0.as_str(), choice.1, out)?;
+    }
+    Ok(())
+}
+
+/// The kinds of an edge, and what it may name.
 #[tactic(auto, unfolding(crate::specs::Choices::edge_text))]
 fn write_edge(alloc: Global, edge: &EdgeLits, out: &mut Vec<u8>) -> Result<(), AllocError>
     ensures { OnOk result (out.new.items ≡ out.old.items ++ lines.edge_text edge.now) }
 {
-    write_kind(alloc, edge, "build", edge.build, out)?;
-    write_kind(alloc, edge, "link", edge.link, out)?;
-    write_kind(alloc, edge, "run", edge.run, out)
+    write_at_edge(alloc, edge, "edge", "build", edge.build, out)?;
+    write_at_edge(alloc, edge, "edge", "link", edge.link, out)?;
+    write_at_edge(alloc, edge, "edge", "run", edge.run, out)?;
+    write_names(alloc, edge, edge.virtuals.as_slice(), out)
 }
 
 /// The packages that may provide a virtual.

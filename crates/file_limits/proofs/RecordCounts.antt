@@ -1,5 +1,5 @@
 -- A record counts no more than its value weighs, and a database has as many bytes as its value weighs.
-use Rattle.std.proofs.Common.{◌≡◌, refl, sym, ap, subst, ℕ, ◌+◌, ◌≤◌, List, [], ◌∷◌, length, Option, Some, None, Ok, Err, codes, sum_by, arith}
+use Rattle.std.proofs.Common.{Bool, ◌≡◌, refl, sym, ap, subst, ℕ, ◌+◌, ◌≤◌, List, [], ◌∷◌, length, Option, Some, None, Ok, Err, codes, sum_by, arith}
 use Rattle.variant_values.specs.Texts.{with_text, with_texts}
 use Rattle.serde_json.specs.Data.{Members}
 use Rattle.json_readers.specs.Faults.{Reading}
@@ -17,9 +17,9 @@ use Rattle.json_texts.specs.Forms.{name_meaning, value_meaning, version_in}
 use Rattle.record_reader.specs.Records.{back_at, compiler_at, dependency_at, front_at, record_keys, middle_at, record_entry_at, variant_values_at}
 use Rattle.record_reader.specs.declared.record.Front.{Front}
 use Rattle.record_reader.specs.declared.record.Middle.{Middle}
-use Rattle.graph_core.specs.declared.node.Kinds.{Kinds}
+use Rattle.reuse_db.specs.declared.record.Dependency.{Dependency}
 use Rattle.reuse_db.specs.declared.record.Record.{Record}
-use Rattle.record_reader.specs.Files.{file_keys, records_at, version_at}
+use Rattle.record_reader.specs.Files.{file_keys, may_name, records_at, version_at}
 use Rattle.problem.specs.Limits.{record_members, variant_members}
 use Rattle.file_limits.specs.DatabaseSizes.{DatabasesHoldRecords}
 use Rattle.file_limits.proofs.Parts.{length-with_text}
@@ -47,15 +47,15 @@ abbrev listed : Reading Front → ℕ
 listed (Ok front) = length front.dependencies
 listed (Err m) = 0
 
-dependencies-count : (odd : Option (List ℕ)) (ms : Members) (front : Front) → front_at odd ms ≡ Ok front
+dependencies-count : (names : Bool) (odd : Option (List ℕ)) (ms : Members) (front : Front) → front_at names odd ms ≡ Ok front
     → length front.dependencies ≤ weight_at ms (codes "dependencies")
 unfolding front_at
-dependencies-count odd ms front e =
-    let list = set_of Some (Some (codes "hash")) dependency_at in
-    let some = λ (xs : List (List ℕ × Kinds)). length xs + sum_by (λ x. 0) xs in
+dependencies-count names odd ms front e =
+    let list = set_of Some (Some (codes "hash")) (dependency_at names) in
+    let some = λ (xs : List Dependency). length xs + sum_by (λ x. 0) xs in
     let compiler = bind_ok (field (null_or compiler_at) odd (codes "compiler") ms) _ front e in
     let dependencies = bind_ok (field list odd (codes "dependencies") ms) _ front compiler.2 in
-    let counted : CountsWithin some list = set-counts (λ x. 0) dependency_at (none-counts dependency_at) Some (Some (codes "hash")) in
+    let counted : CountsWithin some list = set-counts (λ x. 0) (dependency_at names) (none-counts (dependency_at names)) Some (Some (codes "hash")) in
     let within = field-counts some list counted odd (codes "dependencies") ms dependencies.0 dependencies.1 in
     let same : length dependencies.0 ≡ length front.dependencies = ap listed dependencies.2 in
     omega arith
@@ -84,15 +84,15 @@ back-count front middle odd ms entry e =
 
 -- ---- records
 
-record-count : CountsWithin record_members record_entry_at
+record-count : (names : Bool) → CountsWithin record_members (record_entry_at names)
 unfolding record_entry_at
-record-count d entry e =
+record-count names d entry e =
     let ms = bind_ok (members_of d) _ entry e in
     let odd = first_odd record_keys ms.0 in
-    let front = bind_ok (front_at odd ms.0) _ entry ms.2 in
+    let front = bind_ok (front_at names odd ms.0) _ entry ms.2 in
     let middle = bind_ok (middle_at odd ms.0) _ entry front.2 in
     let two = keys-share (codes "dependencies" ∷ codes "variants" ∷ []) ms.0 refl in
-    let first = dependencies-count odd ms.0 front.0 front.1 in
+    let first = dependencies-count names odd ms.0 front.0 front.1 in
     let second = back-count front.0 middle.0 odd ms.0 entry middle.2 in
     subst (λ v. record_members entry ≤ weight v) (sym (members_ok d ms.0 ms.1)) (omega arith)
 
@@ -101,11 +101,12 @@ unfolding records_at
 records-count d records e =
     let some = λ (entries : List Record). length entries + sum_by record_members entries in
     let ms = bind_ok (members_of d) _ records e in
+    let names = may_name ms.0 in
     let odd = first_odd file_keys ms.0 in
-    let list = bind_ok (field (list_of record_entry_at) odd (codes "records") ms.0) _ records ms.2 in
+    let list = bind_ok (field (list_of (record_entry_at names)) odd (codes "records") ms.0) _ records ms.2 in
     let version = bind_ok (field version_at odd (codes "version") ms.0) _ records list.2 in
     let none = bind_ok (none_odd odd) _ records version.2 in
-    let within = field-counts some (list_of record_entry_at) (list-counts record_members record_entry_at record-count) odd
+    let within = field-counts some (list_of (record_entry_at names)) (list-counts record_members (record_entry_at names) (record-count names)) odd
     (codes "records") ms.0
     list.0 list.1 in
     subst (λ v. some records ≤ weight v) (sym (members_ok d ms.0 ms.1))

@@ -1,5 +1,5 @@
 -- Records that were read have their variants in byte order, each with a value.
-use Rattle.std.proofs.Common.{◌≡◌, refl, ap, subst, ℕ, ◌+◌, true, Option, None, Ok, Err, List, [], ◌∷◌, map, codes, decimal}
+use Rattle.std.proofs.Common.{Bool, ◌≡◌, refl, ap, subst, ℕ, ◌+◌, true, Option, None, Ok, Err, List, [], ◌∷◌, map, codes, decimal}
 use Rattle.std.specs.List.{list_all}
 use Rattle.std.specs.Ordering.{match_ordering}
 use Rattle.std.specs.declared.cmp.Ordering.{Ordering}
@@ -23,7 +23,7 @@ use Rattle.record_reader.specs.Records.{back_at, front_at, record_keys, middle_a
 use Rattle.record_reader.specs.declared.record.Front.{Front}
 use Rattle.record_reader.specs.declared.record.Middle.{Middle}
 use Rattle.reuse_db.specs.declared.record.Record.{Record}
-use Rattle.record_reader.specs.Files.{file_keys, records_at, version_at, IsDatabase}
+use Rattle.record_reader.specs.Files.{file_keys, may_name, records_at, version_at, IsDatabase}
 use Rattle.file_limits.specs.Values.{are_valued, has_values, is_filled}
 use Rattle.file_limits.proofs.OrderLaws.{AreOrderedItems, AreOrderedMembers, IsOrdered, keys_in, member_ordered, text_ordered}
 
@@ -110,33 +110,33 @@ back_valued front middle odd ms entry ordered e =
     subst (λ (l : Variants). are_valued l ≡ true) same
     (map_valued read.0 variants.0 (member_ordered (codes "variants") ms read.0 ordered read.1) read.2)
 
-record_valued : (d : Data) (entry : Record) → IsOrdered d → record_entry_at d ≡ Ok entry → are_valued entry.variants ≡ true
+record_valued : (names : Bool) (d : Data) (entry : Record) → IsOrdered d → record_entry_at names d ≡ Ok entry → are_valued entry.variants ≡ true
 unfolding record_entry_at
-record_valued d entry ordered e =
+record_valued names d entry ordered e =
     let ms = bind_ok (members_of d) _ entry e in
     let odd = first_odd record_keys ms.0 in
-    let front = bind_ok (front_at odd ms.0) _ entry ms.2 in
+    let front = bind_ok (front_at names odd ms.0) _ entry ms.2 in
     let middle = bind_ok (middle_at odd ms.0) _ entry front.2 in
     let inside : IsOrdered (object ms.0) = subst IsOrdered (members_ok d ms.0 ms.1) ordered in
     back_valued front.0 middle.0 odd ms.0 entry inside.1 middle.2
 
-items_valued : (i : ℕ) (ds : Items) (records : List Record) → AreOrderedItems ds → items_from record_entry_at i ds ≡ Ok records
+items_valued : (names : Bool) (i : ℕ) (ds : Items) (records : List Record) → AreOrderedItems ds → items_from (record_entry_at names) i ds ≡ Ok records
     → list_all has_values records ≡ true
-items_valued i no_items records ordered e =
+items_valued names i no_items records ordered e =
     subst (λ (l : List Record). list_all has_values l ≡ true) (ok_same [] records e) refl
-items_valued i (item d ds) records ordered e =
-    let first = bind_ok (below (decimal i) (record_entry_at d)) _ records e in
-    let rest = bind_ok (items_from record_entry_at (i + 1) ds) _ records first.2 in
-    let here = record_valued d first.0 ordered.0 (below_ok (decimal i) (record_entry_at d) first.0 first.1) in
+items_valued names i (item d ds) records ordered e =
+    let first = bind_ok (below (decimal i) (record_entry_at names d)) _ records e in
+    let rest = bind_ok (items_from (record_entry_at names) (i + 1) ds) _ records first.2 in
+    let here = record_valued names d first.0 ordered.0 (below_ok (decimal i) (record_entry_at names d) first.0 first.1) in
     subst (λ (l : List Record). list_all has_values l ≡ true)
     (ok_same (first.0 ∷ rest.0) records rest.2)
-    (rw (here, items_valued (i + 1) ds rest.0 ordered.1 rest.1) refl)
+    (rw (here, items_valued names (i + 1) ds rest.0 ordered.1 rest.1) refl)
 
-list_valued : (d : Data) (records : List Record) → IsOrdered d → list_of record_entry_at d ≡ Ok records
+list_valued : (names : Bool) (d : Data) (records : List Record) → IsOrdered d → list_of (record_entry_at names) d ≡ Ok records
     → list_all has_values records ≡ true
-list_valued d records ordered e =
+list_valued names d records ordered e =
     let items = bind_ok (given (as_array d)) _ records e in
-    items_valued 0 items.0 records (subst IsOrdered (items_ok d items.0 items.1) ordered) items.2
+    items_valued names 0 items.0 records (subst IsOrdered (items_ok d items.0 items.1) ordered) items.2
 
 value_valued : (d : Data) (records : List Record) → IsOrdered d → records_at d ≡ Ok records
     → list_all has_values records ≡ true
@@ -144,13 +144,13 @@ unfolding records_at
 value_valued d records ordered e =
     let ms = bind_ok (members_of d) _ records e in
     let odd = first_odd file_keys ms.0 in
-    let list = bind_ok (field (list_of record_entry_at) odd (codes "records") ms.0) _ records ms.2 in
+    let list = bind_ok (field (list_of (record_entry_at (may_name ms.0))) odd (codes "records") ms.0) _ records ms.2 in
     let version = bind_ok (field version_at odd (codes "version") ms.0) _ records list.2 in
     let none = bind_ok (none_odd odd) _ records version.2 in
     let inside : IsOrdered (object ms.0) = subst IsOrdered (members_ok d ms.0 ms.1) ordered in
-    let read = field_ok (list_of record_entry_at) odd (codes "records") ms.0 list.0 list.1 in
+    let read = field_ok (list_of (record_entry_at (may_name ms.0))) odd (codes "records") ms.0 list.0 list.1 in
     subst (λ (l : List Record). list_all has_values l ≡ true) (ok_same list.0 records none.2)
-    (list_valued read.0 list.0 (member_ordered (codes "records") ms.0 read.0 inside.1 read.1) read.2)
+    (list_valued (may_name ms.0) read.0 list.0 (member_ordered (codes "records") ms.0 read.0 inside.1 read.1) read.2)
 
 -- each record of a database has its variants in order, each with a value
 pub database_valued : (bytes : List ℕ) (records : List Record) → IsDatabase bytes records

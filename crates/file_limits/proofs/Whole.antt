@@ -12,7 +12,7 @@ use Rattle.file_limits.specs.SpecSizes.{TextsBearValues}
 use Rattle.target_table.specs.Faults.{fault_of}
 use Rattle.target_table.specs.declared.entry.TargetEntry.{TargetEntry}
 use Rattle.target_table.specs.declared.fault.TargetFault.{TargetFault}
-use Rattle.settings_reader.specs.Keys.{platform_at, budget_at, os_at, target_entries_at, compilers_at, provider_entries_at}
+use Rattle.settings_reader.specs.Keys.{platform_at, budget_at, os_at, target_entries_at, compilers_at, provider_entries_at, provided_together_at}
 use Rattle.settings_reader.specs.Order.{head_of, tail_of}
 use Rattle.settings_reader.specs.Packages.{ArePackagesAt}
 use Rattle.settings_reader.specs.Settings.{IsSettings, table_or, settings_keys}
@@ -62,7 +62,8 @@ unfolding tail_of
 tail_most ms tail e =
     let compilers = bind_ok (compilers_at ms) _ tail e in
     let providers = bind_ok (provider_entries_at ms) _ tail compilers.2 in
-    let same = step.ok_same _ tail providers.2 in
+    let together = bind_ok (provided_together_at ms) _ tail providers.2 in
+    let same = step.ok_same _ tail together.2 in
     omega (
       arith,
       compilers_at_most ms compilers.0 compilers.1,
@@ -93,6 +94,7 @@ settings_with head targets tail packages = record {
   compilers =
       tail.compilers;
   providers = tail.providers;
+  provided_together = tail.provided_together;
   packages = packages;
 }
 

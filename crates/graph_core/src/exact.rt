@@ -77,6 +77,7 @@ impl Duplicate for Edge {
             parent: self.parent.duplicate(alloc)?,
             child: self.child.duplicate(alloc)?,
             kinds: self.kinds,
+            virtuals: self.virtuals.duplicate(alloc)?,
         })
     }
 }
@@ -86,5 +87,6 @@ impl Same for Edge {
         self.parent.same(&other.parent)
             && self.child.same(&other.child)
             && self.kinds.same(&other.kinds)
+            && self.virtuals.same(&other.virtuals)
     }
 }

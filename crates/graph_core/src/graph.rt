@@ -48,6 +48,28 @@ impl Graph {
         }
     }
 
+    /// The graph of lists that are in order already.
+    pub fn from_parts(nodes: Vec<Node>, edges: Vec<Edge>, providers: Vec<(Word, Word)>) -> Graph
+        requires { IsGraph (record {
+          nodes = nodes.items;
+          edges = edges.items;
+          providers =
+              providers.items;
+        }) }
+        ensures { result ≡ record {
+          nodes = nodes.items;
+          edges = edges.items;
+          providers =
+              providers.items;
+        } }
+    {
+        Graph {
+            nodes,
+            edges,
+            providers,
+        }
+    }
+
     /// Adds a node; `false`, and nothing is changed, exactly where its name is there.
     pub fn add_node(&mut self, node: Node) -> Result<bool, AllocError>
         ensures added { IfOk result (λ added. IsTrue added ↔ (node_of self.old node.name ≡ None)) }

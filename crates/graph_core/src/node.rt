@@ -51,6 +51,8 @@ pub struct Edge {
     pub parent: Word,
     pub child: Word,
     pub kinds: Kinds,
+    /// What the child provides to the parent.
+    pub virtuals: ValueSet,
 }
 
 impl Keyed for Node {

@@ -21,7 +21,8 @@ use Rattle.graph_formulas.specs.Directives.{root_rule, edge_rule, constraint_rul
 use Rattle.graph_formulas.specs.Demands.{directive_rule, required_rule, demand_rule}
 use Rattle.graph_formulas.proofs.Directives.{LeadsToNodes, root-kept, edge-kept, constraint-kept, conflict-kept, requirement-kept, built-kept, there-kept}
 
-all-filter : {T : Type 0} (test f : T → Bool) (xs : List T) → list_all test (filter f xs) ≡ list_all (λ x. implies (f x) (test x)) xs
+-- a test of what is left of a list
+pub all-filter : {T : Type 0} (test f : T → Bool) (xs : List T) → list_all test (filter f xs) ≡ list_all (λ x. implies (f x) (test x)) xs
 all-filter test f [] = refl
 all-filter test f (x ∷ xs) = elim (cases_Bool (f x)) [
   | inl t ↦ rw (t, all-filter test f xs) refl

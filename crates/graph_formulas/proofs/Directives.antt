@@ -1,5 +1,5 @@
 -- The rules of roots and directives hold where these are kept.
-use Rattle.std.proofs.Common.{◌≡◌, refl, sym, ap, ◌∙◌, Bool, true, false, not, ◌||◌, ℕ, ◌+◌, List, [], ◌∷◌, Option, Some, None, inl, inr, arith}
+use Rattle.std.proofs.Common.{◌≡◌, refl, sym, ap, ◌∙◌, Bool, true, false, not, ◌||◌, ◌&&◌, ℕ, ◌+◌, List, [], ◌∷◌, Option, Some, None, inl, inr, arith}
 use Rattle.std.specs.Prelude.{◌==◌, if◌then◌else◌, count_by}
 use Rattle.std.specs.List.{list_any, list_all}
 use Rattle.std.specs.Option.{option_and_then}
@@ -13,22 +13,24 @@ use Rattle.condition_rules.specs.Words.{is_one_text, implies, if_written, is_som
 use Rattle.graph_core.specs.Graphs.{Content, node_of, provider_of, edge_of}
 use Rattle.problem.specs.Nodes.{covers, is_built}
 use Rattle.graph_core.specs.declared.node.Node.{Node}
-use Rattle.graph_core.specs.declared.node.Kinds.{Kinds}
 use Rattle.condition_rules.specs.Holds.{asked_node, suits, holds, all_hold}
 use Rattle.recipe_data.specs.declared.recipe.DependRow.{DependRow}
 use Rattle.recipe_data.specs.declared.recipe.ConflictRow.{ConflictRow}
 use Rattle.recipe_data.specs.declared.recipe.RequireRow.{RequireRow}
 use Rattle.problem.specs.Problems.{Problem, world_of}
-use Rattle.graph_rules.specs.Directives.{keeps_root, keeps_edge, keeps_constraint, keeps_conflict, keeps_requirement, has_choice}
-use Rattle.graph_formulas.specs.Facts.{GraphWord, has_edge, is_in}
-use Rattle.graph_formulas.specs.Lists.{just_one}
+use Rattle.virtuals.specs.Virtuals.{is_virtual}
+use Rattle.graph_core.specs.declared.node.Edge.{Edge}
+use Rattle.literal_table.specs.Spells.{virtuals_in}
+use Rattle.graph_rules.specs.Directives.{answers, keeps_root, keeps_edge, keeps_constraint, keeps_conflict, keeps_requirement, has_choice}
+use Rattle.graph_formulas.specs.Facts.{GraphWord, has_edge, has_virtual, is_in}
+use Rattle.graph_formulas.specs.Lists.{◌and◌, just_one}
 use Rattle.graph_formulas.specs.Parts.{suits_rule, holds_rule}
 use Rattle.literal_table.proofs.Spelling.{named-so}
 use Rattle.graph_formulas.proofs.Rules.{some-kept, named-kept}
 use Rattle.graph_formulas.proofs.Kept.{by_node, asked-kept, holds-kept, suits-kept}
 use Rattle.graph_formulas.proofs.Few.{one-kept}
 use Rattle.graph_formulas.specs.Terms.{Term, is_true, known_rule, where_built, where_there}
-use Rattle.graph_formulas.specs.Directives.{root_rule, edge_to, edge_rule, suits_asked, constraint_rule, conflict_rule, choice_rule, requirement_rule}
+use Rattle.graph_formulas.specs.Directives.{root_rule, answer_rule, edge_to, edge_rule, suits_asked, constraint_rule, conflict_rule, choice_rule, requirement_rule}
 
 -- an implication
 pub not-or : (a b : Bool) → (not a || b) ≡ implies a b
@@ -72,18 +74,57 @@ module _ (problem : Problem) (packages : Text → List Text) (graph : Content)
   unfolding keeps_constraint
   constraint-kept node row = rw (suits-asked row) (not-or (all_hold (world_of problem) row.when graph node.name) _)
 
-  edge-child : LeadsToNodes graph → (parent : Text) (kinds : Kinds) (child : Text)
-      → in_graph (fact (has_edge parent child kinds)) ≡ is_some_and (node_of graph child) (λ c. is_some_and (edge_of graph parent c.name) (λ e. covers e.kinds kinds))
-  edge-child leads parent kinds child =
-      by_node graph child (λ o. is_some_and (edge_of graph parent child) (λ e. covers e.kinds kinds) ≡ is_some_and o (λ c. is_some_and (edge_of graph parent c.name) (λ e. covers e.kinds kinds)))
-      (λ node here. ap (λ n. is_some_and (edge_of graph parent n) (λ e. covers e.kinds kinds)) (sym (named-so graph child node here)))
-      (λ absent. ap (λ o. is_some_and o (λ e. covers e.kinds kinds)) (leads parent child absent))
+  -- an edge answers the row as one that asks for this name
+  abbrev answers_as : DependRow → Text → Edge → Bool
+  answers_as row asked e = covers e.kinds row.kinds && implies (is_virtual problem.recipes asked) (is_one_text e.virtuals asked)
+
+  answer-at : (parent : Text) (row : DependRow) (asked child : Text)
+      → in_graph (answer_rule problem packages parent row asked child) ≡ is_some_and (edge_of graph parent child) (answers_as row asked)
+  answer-at parent row asked child = either (is_virtual problem.recipes asked)
+    where
+      both : (o : Option Edge) → (is_some_and o (λ e. covers e.kinds row.kinds) && is_one_text (virtuals_in o) asked)
+          ≡ is_some_and o (λ e. covers e.kinds row.kinds && is_one_text e.virtuals asked)
+      both None = refl
+      both (Some e) = refl
+
+      and-true : (a : Bool) → a ≡ (a && true)
+      and-true true = refl
+      and-true false = refl
+
+      alone : (o : Option Edge) → is_some_and o (λ e. covers e.kinds row.kinds) ≡ is_some_and o (λ e. covers e.kinds row.kinds && true)
+      alone None = refl
+      alone (Some e) = and-true (covers e.kinds row.kinds)
+
+      either : (b : Bool)
+          → in_graph (if b then fact (has_edge parent child row.kinds) and fact (has_virtual parent child asked) else fact (has_edge parent child row.kinds))
+          ≡ is_some_and (edge_of graph parent child) (λ e. covers e.kinds row.kinds && implies b (is_one_text e.virtuals asked))
+      either true = both (edge_of graph parent child)
+      either false = alone (edge_of graph parent child)
+
+  edge-child : LeadsToNodes graph → (parent : Text) (row : DependRow) (asked child : Text)
+      → in_graph (answer_rule problem packages parent row asked child)
+      ≡ is_some_and (node_of graph child) (λ c. is_some_and (edge_of graph parent c.name) (answers_as row asked))
+  edge-child leads parent row asked child = answer-at parent row asked child
+      ∙ by_node graph child (λ o. is_some_and (edge_of graph parent child) (answers_as row asked)
+      ≡ is_some_and o (λ c. is_some_and (edge_of graph parent c.name) (answers_as row asked)))
+      (λ node here. ap (λ n. is_some_and (edge_of graph parent n) (answers_as row asked)) (sym (named-so graph child node here)))
+      (λ absent. ap (λ o. is_some_and o (answers_as row asked)) (leads parent child absent))
 
   edge-to : LeadsToNodes graph → (node : Node) (row : DependRow) → in_graph (edge_to problem packages node.name row)
-      ≡ is_some_and (option_and_then (asked_node (world_of problem) graph) row.part.name) (λ child. is_some_and (edge_of graph node.name child.name) (λ e. covers e.kinds row.kinds))
+      ≡ is_some_and (option_and_then (asked_node (world_of problem) graph) row.part.name)
+      (λ child. is_some_and (edge_of graph node.name child.name) (answers problem row))
   edge-to leads node row =
-      named-kept (is_in graph) _ _ (λ asked. asked-kept (world_of problem) graph packages listed asked (λ child. fact (has_edge node.name child row.kinds)) _ (edge-child leads node.name row.kinds)) row.part.name
-      ∙ sym (then-and (asked_node (world_of problem) graph) _ row.part.name)
+      named-kept (is_in graph) _ _ (λ asked. asked-kept (world_of problem) graph packages listed asked (answer_rule problem packages node.name row asked) _
+      (edge-child leads node.name row asked)) row.part.name
+      ∙ by_name row.part.name refl
+    where
+      by_name : (o : Option Text) → row.part.name ≡ o
+          → is_some_and o (λ asked. is_some_and (asked_node (world_of problem) graph asked) (λ c. is_some_and (edge_of graph node.name c.name) (answers_as row asked)))
+          ≡ is_some_and (option_and_then (asked_node (world_of problem) graph) o) (λ child. is_some_and (edge_of graph node.name child.name) (answers problem row))
+      by_name None is = refl
+      by_name (Some asked) is = ap (λ (named : Option Text). is_some_and (asked_node (world_of problem) graph asked)
+          (λ c. is_some_and (edge_of graph node.name c.name) (λ e. covers e.kinds row.kinds
+          && if_written named (λ name. implies (is_virtual problem.recipes name) (is_one_text e.virtuals name))))) (sym is)
 
   -- of its edge
   pub edge-kept : LeadsToNodes graph → (node : Node) (row : DependRow) → holds_true (edge_rule problem packages node.name row) ≡ keeps_edge problem graph node row

@@ -14,19 +14,19 @@ use Rattle.problem.specs.Nodes.{covers, is_built}
 use Rattle.graph_core.specs.declared.node.Node.{Node}
 use Rattle.graph_core.specs.declared.node.Edge.{Edge}
 use Rattle.graph_core.specs.declared.node.Kinds.{Kinds}
-use Rattle.graph_rules.proofs.Lists.{bytes_eq-same}
+use Rattle.graph_rules.proofs.Lists.{bytes_eq-same, some-and}
 use Rattle.condition_rules.specs.Holds.{asked_node, all_hold}
 use Rattle.recipe_data.specs.declared.recipe.DependRow.{DependRow}
 use Rattle.problem.specs.Problems.{Problem, world_of, depends_at}
-use Rattle.graph_rules.specs.Built.{asks, asking, asked_kinds}
-use Rattle.graph_rules.specs.Whole.{uses}
-use Rattle.graph_formulas.specs.Facts.{is_in, has_origin, provides_as}
-use Rattle.graph_formulas.specs.Lists.{settled_test, some}
+use Rattle.graph_rules.specs.Built.{asks, asking, asked_kinds, names_virtual, is_asked_virtual}
+use Rattle.literal_table.specs.Spells.{virtuals_in}
+use Rattle.graph_formulas.specs.Facts.{is_in, provides_as}
+use Rattle.graph_formulas.specs.Lists.{settled_test, one_keeps, some}
 use Rattle.literal_table.proofs.Spelling.{named-so}
 use Rattle.graph_formulas.proofs.Rules.{given-kept, each-kept, some-kept, named-kept}
-use Rattle.graph_formulas.proofs.Kept.{by_node, there}
-use Rattle.graph_formulas.specs.Terms.{Term, is_true, met_rule, builds_node}
-use Rattle.graph_formulas.specs.Edges.{asked_child, empty_kinds, of_provider, asks_rule, may_ask, names_virtual, may_use, kind_rule, extra_edge_rule, use_rule}
+use Rattle.graph_formulas.proofs.Kept.{by_node}
+use Rattle.graph_formulas.specs.Terms.{Term, is_true, met_rule}
+use Rattle.graph_formulas.specs.Edges.{asked_child, empty_kinds, of_provider, asks_rule, may_ask, kind_rule, virtual_rule, extra_edge_rule}
 use Rattle.graph_formulas.proofs.Directives.{LeadsToNodes, not-or, then-and}
 
 any-filter : {T : Type 0} (test f : T → Bool) (xs : List T) → list_any test (filter f xs) ≡ list_any (λ x. test x && f x) xs
@@ -104,15 +104,11 @@ module _ (problem : Problem) (packages : Text → List Text) (graph : Content)
   asks-may : (node : Node) (row : DependRow) → asks problem graph node child row ≡ true → may_ask problem packages child row ≡ true
   asks-may node row e = some-asked row.part.name (and_parts _ _ e).1
 
--- a node that uses a provider has a row that asks for the virtual
-pub user-asks : (problem : Problem) (graph : Content) (p : Text × Text) (name : Text)
-    → is_some_and (node_of graph name) (uses problem graph p) ≡ true
-    → may_use problem p.0 name ≡ true
-user-asks problem graph p name = by_node graph name (λ o. is_some_and o (uses problem graph p) ≡ true → may_use problem p.0 name ≡ true)
-    (λ node here h. ap (may_use problem p.0) (sym (named-so graph name node here))
-    ∙ any-left (names_virtual p.0) (λ row. all_hold (world_of problem) row.when graph node.name) (depends_at problem node.name)
-    (and_parts _ _ h).1)
-    (λ absent h. cc)
+-- a test of all under what does not depend on them
+any-and : {T : Type 0} (b : Bool) (test : T → Bool) (xs : List T) → list_any (λ x. b && test x) xs ≡ (b && list_any test xs)
+any-and true test xs = refl
+any-and false test [] = refl
+any-and false test (x ∷ xs) = any-and false test xs
 
 module _ (problem : Problem) (packages : Text → List Text) (graph : Content)
     (listed : (virtual p : Text) → provider_of graph virtual ≡ Some p → is_one_text (packages virtual) p ≡ true)
@@ -204,15 +200,85 @@ module _ (problem : Problem) (packages : Text → List Text) (graph : Content)
           rw (same e.kinds, asked there.0 there.1) (not-or (has e.kinds)
           (list_any (λ row. has row.kinds) (asking problem graph node child)))
 
-  -- an edge of the node has no kind that none asks for
-  pub extra_edge-kept : LeadsToNodes graph → (child : Text)
-      → keeps_rule (is_true (world_of problem) graph) (extra_edge_rule problem packages name child) ≡ if_written (edge_of graph name child)
-      (λ e. covers (asked_kinds (asking problem graph node child)) e.kinds)
-  extra_edge-kept leads child = rw (
+  abbrev holds_row : DependRow → Bool
+  holds_row row = all_hold (world_of problem) row.when graph name
+
+  -- a row on the virtual asks for the child where it holds and the child is the provider
+  asks-virtual : (child : Text) (c : Node) → node_of graph child ≡ Some c → (virtual : Text) (row : DependRow)
+      → names_virtual problem virtual row ≡ true
+      → asks problem graph node child row ≡ (holds_row row && is_in graph (provides_as virtual child))
+  asks-virtual child c child_here virtual row h =
+      let parts = and_parts (is_virtual problem.recipes virtual) (is_some_and row.part.name (bytes_eq virtual)) h in
+      let written = some-and row.part.name (bytes_eq virtual) parts.1 in
+      let named : row.part.name ≡ Some virtual = written.1 ∙ ap Some (sym (bytes_eq-same virtual written.0 written.2)) in
+      sym (asks-kept child c child_here row)
+      ∙ ap (λ (o : Option Text). holds_row row && keeps_rule (is_in graph) (one_keeps o (asked_child (world_of problem) child))) named
+      ∙ rw parts.0 refl
+
+  asked-virtual : (child : Text) (c : Node) → node_of graph child ≡ Some c → (virtual : Text)
+      → (is_in graph (provides_as virtual child) && keeps_rule (is_true (world_of problem) graph)
+      (some (λ row. met_rule name row.when) (filter (names_virtual problem virtual) (depends_at problem name))))
+      ≡ is_asked_virtual problem graph node child virtual
+  asked-virtual child c child_here virtual =
+      ap (λ b. is_in graph (provides_as virtual child) && b) (
+      some-kept (is_true (world_of problem) graph) (λ row. met_rule name row.when) holds_row (λ row. refl)
+      (filter (names_virtual problem virtual) (depends_at problem name))
+      ∙ any-filter holds_row (names_virtual problem virtual) (depends_at problem name))
+      ∙ sym (any-and (is_in graph (provides_as virtual child)) (λ row. holds_row row && names_virtual problem virtual row) (depends_at problem name))
+      ∙ any-same (λ row. is_in graph (provides_as virtual child) && (holds_row row && names_virtual problem virtual row))
+      (λ row. names_virtual problem virtual row && asks problem graph node child row) pointwise_same (depends_at problem name)
+      ∙ ap (λ n. list_any (λ row. names_virtual problem virtual row && asks problem graph node child row) (depends_at problem n))
+      (sym (named-so graph name node here))
+      ∙ sym (any-filter (names_virtual problem virtual) (asks problem graph node child) (depends_at problem node.name))
+    where
+      turned : (p h : Bool) → (p && (h && true)) ≡ (h && p)
+      turned true true = refl
+      turned true false = refl
+      turned false true = refl
+      turned false false = refl
+
+      never : (p h : Bool) → (p && (h && false)) ≡ false
+      never true true = refl
+      never true false = refl
+      never false h = refl
+
+      pointwise_same : (row : DependRow) → (is_in graph (provides_as virtual child) && (holds_row row && names_virtual problem virtual row))
+          ≡ (names_virtual problem virtual row && asks problem graph node child row)
+      pointwise_same row = elim (cases_Bool (names_virtual problem virtual row)) [
+        | inl on ↦ rw (on, asks-virtual child c child_here virtual row on) (turned (is_in graph (provides_as virtual child)) (holds_row row))
+        | inr off ↦ rw off (never (is_in graph (provides_as virtual child)) (holds_row row))
+      ]
+
+  -- where it names the virtual, some row asks for it
+  virtual-kept : LeadsToNodes graph → (child virtual : Text)
+      → keeps_rule (is_true (world_of problem) graph) (virtual_rule problem packages name child virtual)
+      ≡ implies (is_one_text (virtuals_in (edge_of graph name child)) virtual) (is_asked_virtual problem graph node child virtual)
+  virtual-kept leads child virtual = virtual-kept-cases (edge_of graph name child) refl (node_of graph child) refl
+    where
+      virtual-kept-cases : (o : Option Edge) → edge_of graph name child ≡ o → (n : Option Node) → node_of graph child ≡ n
+          → (not (is_one_text (virtuals_in o) virtual) || (is_in graph (provides_as virtual child)
+          && keeps_rule (is_true (world_of problem) graph)
+          (some (λ row. met_rule name row.when) (filter (names_virtual problem virtual) (depends_at problem name)))))
+          ≡ implies (is_one_text (virtuals_in o) virtual) (is_asked_virtual problem graph node child virtual)
+      virtual-kept-cases None is n there = refl
+      virtual-kept-cases (Some e) is None absent = absurd (let both : Some e ≡ None = sym is ∙ leads name child absent in cc)
+      virtual-kept-cases (Some e) is (Some c) child_here = rw (asked-virtual child c child_here virtual)
+          (not-or (is_one_text e.virtuals virtual) (is_asked_virtual problem graph node child virtual))
+
+  -- an edge of the node has no kind and no virtual that none asks for
+  pub extra_edge-kept : LeadsToNodes graph → (virtuals : List Text) (child : Text)
+      → keeps_rule (is_true (world_of problem) graph) (extra_edge_rule problem packages virtuals name child)
+      ≡ (if_written (edge_of graph name child) (λ e. covers (asked_kinds (asking problem graph node child)) e.kinds)
+      && list_all (λ q. implies (is_one_text (virtuals_in (edge_of graph name child)) q) (is_asked_virtual problem graph node child q)) virtuals)
+  extra_edge-kept leads virtuals child = rw (
     kind-kept leads (record empty_kinds { build = true }) (λ k. k.build) child (λ k. ands k.build),
     kind-kept leads (record empty_kinds { link = true }) (λ k. k.link) child (λ k. and-true k.link),
     kind-kept leads (record empty_kinds { run = true }) (λ k. k.run) child (λ k. refl),
-  ) (extra_edge-kept-cases (edge_of graph name child))
+    each-kept (is_true (world_of problem) graph) (virtual_rule problem packages name child)
+        (λ q. implies (is_one_text (virtuals_in (edge_of graph name child)) q) (is_asked_virtual problem graph node child q))
+        (virtual-kept leads child) virtuals,
+  ) (ap (λ b. b && list_all (λ q. implies (is_one_text (virtuals_in (edge_of graph name child)) q) (is_asked_virtual problem graph node child q)) virtuals)
+      (extra_edge-kept-cases (edge_of graph name child)))
     where
       and-true : (a : Bool) → (a && true) ≡ a
       and-true true = refl
@@ -229,34 +295,6 @@ module _ (problem : Problem) (packages : Text → List Text) (graph : Content)
           ≡ if_written o (λ e. covers (asked_kinds (asking problem graph node child)) e.kinds)
       extra_edge-kept-cases None = refl
       extra_edge-kept-cases (Some e) = refl
-
-  -- the node uses the provider
-  pub use-kept : (p : Text × Text) → keeps_rule (is_true (world_of problem) graph) (use_rule problem p name) ≡ uses problem graph p node
-  use-kept p = rw (
-    there (world_of problem) graph name node here (has_origin builds_node),
-    sym (some-there (edge_of graph name p.1)),
-    asking-kept,
-  )
-      (ap (λ n. is_built node && is_some (edge_of graph n p.1)
-      && list_any (λ row. is_some_and row.part.name (bytes_eq p.0) && all_hold (world_of problem) row.when graph n)
-      (depends_at problem n)) (sym (named-so graph name node here)))
-    where
-      asking-kept : keeps_rule (is_true (world_of problem) graph)
-          (some (λ row. met_rule name row.when) (filter (names_virtual p.0) (depends_at problem name)))
-          ≡ list_any (λ row. is_some_and row.part.name (bytes_eq p.0) && all_hold (world_of problem) row.when graph name)
-          (depends_at problem name)
-      asking-kept =
-          some-kept (is_true (world_of problem) graph) (λ row. met_rule name row.when)
-          (λ row. all_hold (world_of problem) row.when graph name) (λ row. refl)
-          (filter (names_virtual p.0) (depends_at problem name))
-          ∙ any-filter (λ row. all_hold (world_of problem) row.when graph name) (names_virtual p.0) (depends_at problem name)
-          ∙ any-same (λ row. all_hold (world_of problem) row.when graph name && names_virtual p.0 row) (λ row. names_virtual p.0 row
-          && all_hold (world_of problem) row.when graph name)
-          (λ row. and-swap (all_hold (world_of problem) row.when graph name) (names_virtual p.0 row)) (depends_at problem name)
-
-      some-there : (o : Option Edge) → is_some o ≡ is_some_and o (λ e. true)
-      some-there None = refl
-      some-there (Some e) = refl
 
 -- of a list of names, the one that is this
 all-picked : (f : Text → Bool) (p : Text) (names : List Text)

@@ -123,26 +123,27 @@ module _ (world : World) (graph : Content) where
         named-so graph name node here,
       ) refl
 
+      tops-there : (specs : List Spec) → keeps (tops_rule world name specs) ≡ list_all (λ spec. meets world spec.top node) specs
+      tops-there specs = rw (
+        unless-so (is_in graph) (is_filled specs) (there_rule name) (there is_there),
+        each-kept (is_in graph) _ (λ spec. meets world spec.top node) (λ spec. meets-there spec.top) specs,
+      ) refl
+
+      row-there : (virtual : Text) (wanted : Option (List Item)) (row : ProvideRow)
+          → keeps (row_rule world name virtual wanted row) ≡ row_provides world node virtual wanted row
+      row-there virtual wanted row = row-there-cases (bytes_eq row.name virtual) (lists_overlap row.versions wanted) (tops_rule world name row.when.specs) _ (tops-there row.when.specs)
+        where
+          row-there-cases : (a c : Bool) (rule : Proposition GraphWord) (b : Bool) → keeps rule ≡ b
+              → keeps (if a && c then rule else nowhere) ≡ (a && b && c)
+          row-there-cases true true rule b same = same ∙ sym (and-true b)
+          row-there-cases true false rule b same = sym (off-right b false refl)
+          row-there-cases false c rule b same = refl
+
       provides-there : (virtual : Text) (wanted : Option (List Item)) → keeps (provides_rule world name virtual wanted) ≡ provides world node virtual wanted
       unfolding provides_rule provides
       provides-there virtual wanted =
-          some-kept (is_in graph) (row_rule world name virtual wanted) (row_provides world node virtual wanted) row-there (rows (λ recipe. recipe.provides) (recipe_of world name))
+          some-kept (is_in graph) (row_rule world name virtual wanted) (row_provides world node virtual wanted) (row-there virtual wanted) (rows (λ recipe. recipe.provides) (recipe_of world name))
           ∙ ap (λ n. list_any (row_provides world node virtual wanted) (rows (λ recipe. recipe.provides) (recipe_of world n))) (sym (named-so graph name node here))
-        where
-          tops-there : (specs : List Spec) → keeps (tops_rule world name specs) ≡ list_all (λ spec. meets world spec.top node) specs
-          tops-there specs = rw (
-            unless-so (is_in graph) (is_filled specs) (there_rule name) (there is_there),
-            each-kept (is_in graph) _ (λ spec. meets world spec.top node) (λ spec. meets-there spec.top) specs,
-          ) refl
-
-          row-there : (row : ProvideRow) → keeps (row_rule world name virtual wanted row) ≡ row_provides world node virtual wanted row
-          row-there row = row-there-cases (bytes_eq row.name virtual) (lists_overlap row.versions wanted) (tops_rule world name row.when.specs) _ (tops-there row.when.specs)
-            where
-              row-there-cases : (a c : Bool) (rule : Proposition GraphWord) (b : Bool) → keeps rule ≡ b
-                  → keeps (if a && c then rule else nowhere) ≡ (a && b && c)
-              row-there-cases true true rule b same = same ∙ sym (and-true b)
-              row-there-cases true false rule b same = sym (off-right b false refl)
-              row-there-cases false c rule b same = refl
 
       suits-there : (part : Part) (asked : Text) → keeps (suits_rule world part asked name) ≡ suits world part asked node
       unfolding suits
@@ -190,18 +191,18 @@ module _ (world : World) (graph : Content) where
         | inr bare ↦ rw (bare, none-there is_there) refl
       ]
 
+      tops-absent : (specs : List Spec) → keeps (tops_rule world name specs) ≡ false
+      tops-absent [] = rw (none-there is_there) refl
+      tops-absent (spec ∷ specs) = rw (meets-absent spec.top) refl
+
+      row-absent : (b : Bool) (specs : List Spec) → keeps (if b then tops_rule world name specs else nowhere) ≡ false
+      row-absent true specs = tops-absent specs
+      row-absent false specs = refl
+
       provides-absent : (virtual : Text) (wanted : Option (List Item)) → keeps (provides_rule world name virtual wanted) ≡ false
       unfolding provides_rule
       provides-absent virtual wanted = none-of (rows (λ recipe. recipe.provides) (recipe_of world name))
         where
-          tops-absent : (specs : List Spec) → keeps (tops_rule world name specs) ≡ false
-          tops-absent [] = rw (none-there is_there) refl
-          tops-absent (spec ∷ specs) = rw (meets-absent spec.top) refl
-
-          row-absent : (b : Bool) (specs : List Spec) → keeps (if b then tops_rule world name specs else nowhere) ≡ false
-          row-absent true specs = tops-absent specs
-          row-absent false specs = refl
-
           none-of : (xs : List ProvideRow) → keeps (some (row_rule world name virtual wanted) xs) ≡ false
           none-of [] = refl
           none-of (x ∷ xs) = rw (row-absent (bytes_eq x.name virtual && lists_overlap x.versions wanted) x.when.specs, none-of xs) refl
@@ -220,6 +221,13 @@ module _ (world : World) (graph : Content) where
     pub provides-kept : (virtual : Text) (wanted : Option (List Item)) → keeps (provides_rule world name virtual wanted) ≡ is_some_and (node_of graph name) (λ node. provides world node virtual wanted)
     provides-kept virtual wanted =
         by_node graph name (λ o. keeps (provides_rule world name virtual wanted) ≡ is_some_and o (λ node. provides world node virtual wanted)) (λ node here. provides-there node here virtual wanted) (λ absent. provides-absent absent virtual wanted)
+
+    -- what a row of `provides` asks of its package
+    pub row-kept : (virtual : Text) (wanted : Option (List Item)) (row : ProvideRow)
+        → keeps (row_rule world name virtual wanted row) ≡ is_some_and (node_of graph name) (λ node. row_provides world node virtual wanted row)
+    row-kept virtual wanted row =
+        by_node graph name (λ o. keeps (row_rule world name virtual wanted row) ≡ is_some_and o (λ node. row_provides world node virtual wanted row)) (λ node here. row-there node here virtual wanted row)
+        (λ absent. row-absent absent (bytes_eq row.name virtual && lists_overlap row.versions wanted) row.when.specs)
 
     -- what a part asks of the node that it names
     pub suits-kept : (part : Part) (asked : Text) → keeps (suits_rule world part asked name) ≡ is_some_and (node_of graph name) (suits world part asked)

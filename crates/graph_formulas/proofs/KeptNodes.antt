@@ -6,7 +6,7 @@ use Rattle.std.specs.Option.{option_eq}
 use Rattle.std.specs.Str.{bytes_eq}
 use Rattle.std.proofs.lemmas.Bool.{cases_Bool, eqb-true, eq-eqb}
 use Rattle.clause_formulas.specs.Rules.{Proposition, keeps_rule, fact, isnt, if_so}
-use Rattle.graph_core.specs.Graphs.{Text, Content, node_of, edge_of, edges_from}
+use Rattle.graph_core.specs.Graphs.{Text, Content, node_of, edge_of, edges_from, provider_of}
 use Rattle.graph_core.specs.declared.node.Node.{Node}
 use Rattle.graph_core.specs.declared.node.Edge.{Edge}
 use Rattle.graph_core.specs.declared.node.Kinds.{Kinds}
@@ -17,15 +17,18 @@ use Rattle.problem.specs.Problems.{Problem, world_of, package_entry_of, external
 use Rattle.problem.specs.Nodes.{covers, is_installed}
 use Rattle.problem.specs.Records.{kept_dependencies}
 use Rattle.reuse_db.specs.declared.record.Record.{Record}
-use Rattle.graph_rules.specs.Kept.{same_attributes, external_node, installed_node, has_kinds, keeps_child, is_child, keeps_origin, keeps_kept}
+use Rattle.reuse_db.specs.declared.record.Dependency.{Dependency}
+use Rattle.literal_table.specs.Spells.{virtuals_in}
+use Rattle.std.specs.Cmp.Lexicographic.{pointwise}
+use Rattle.graph_rules.specs.Kept.{is_recorded, are_provided, same_attributes, external_node, installed_node, has_kinds, keeps_child, is_child, keeps_origin, keeps_kept}
 use Rattle.graph_rules.proofs.Lists.{In, bytes_eq-same, bytes_eq-itself}
 use Rattle.literal_table.proofs.Spelling.{named-so}
-use Rattle.graph_formulas.specs.Facts.{GraphWord, Fact, same_variants, has_origin, has_version, has_variants, has_compiler, has_os, has_target, has_prefix, has_edge, node_has, is_in, is_so}
+use Rattle.graph_formulas.specs.Facts.{GraphWord, provides_as, Fact, same_variants, has_origin, has_version, has_variants, has_compiler, has_os, has_target, has_prefix, has_edge, node_has, is_in, is_so}
 use Rattle.graph_formulas.specs.Lists.{◌and◌, settled_test, one_keeps, each_keeps}
 use Rattle.graph_formulas.proofs.Rules.{given-kept, named-kept, each-kept}
 use Rattle.graph_formulas.proofs.Kept.{there}
 use Rattle.graph_formulas.specs.Edges.{empty_kinds}
-use Rattle.graph_formulas.specs.Kept.{same_origin, installs, same_rule, kinds_rule, is_child_name, child_rule, recorded_rule, origin_rule, kept_rule}
+use Rattle.graph_formulas.specs.Kept.{same_origin, installs, same_rule, kinds_rule, is_child_name, provided_rule, joined_rule, child_rule, recorded_rule, origin_rule, kept_rule}
 
 -- ---- origins
 
@@ -134,10 +137,26 @@ module _ (problem : Problem) (graph : Content) (name : Text) (node : Node) (here
       kinds-kept-cases None = refl
       kinds-kept-cases (Some e) = kind-tests (covers e.kinds (record kinds { build = false })) e.kinds.build e.kinds.link e.kinds.run kinds.link kinds.run
 
-  child-kept : (d : Text × Kinds) → in_graph (child_rule problem children name d) ≡ keeps_child problem graph name d
-  child-kept d = named-kept (is_in graph) (λ child. fact (node_has child.name (has_origin (installs d.0))) and kinds_rule name child.name d.1)
-      (λ child. is_some_and (node_of graph child.name) (is_installed d.0) && is_some_and (edge_of graph name child.name) (has_kinds d.1))
-      (λ child. ap (λ b. is_some_and (node_of graph child.name) (is_installed d.0) && b) (kinds-kept child.name d.1)) (record_at problem d.0)
+  -- the edge is as it is recorded
+  edge-recorded : (child : Text) (d : Dependency)
+      → (in_graph (kinds_rule name child d.kinds) && pointwise bytes_eq (virtuals_in (edge_of graph name child)) d.virtuals)
+      ≡ is_some_and (edge_of graph name child) (is_recorded d)
+  edge-recorded child d = rw (kinds-kept child d.kinds) (edge-recorded-cases (edge_of graph name child))
+    where
+      edge-recorded-cases : (o : Option Edge) → (is_some_and o (has_kinds d.kinds) && pointwise bytes_eq (virtuals_in o) d.virtuals)
+          ≡ is_some_and o (is_recorded d)
+      edge-recorded-cases None = refl
+      edge-recorded-cases (Some e) = refl
+
+  provided-kept : (child : Text) (virtuals : List Text) → in_graph (provided_rule child virtuals) ≡ are_provided graph child virtuals
+  provided-kept child virtuals = each-kept (is_in graph) (λ virtual. fact (provides_as virtual child))
+      (λ virtual. is_some_and (provider_of graph virtual) (λ p. bytes_eq p child)) (λ virtual. refl) virtuals
+
+  child-kept : (d : Dependency) → in_graph (child_rule problem children name d) ≡ keeps_child problem graph name d
+  child-kept d = named-kept (is_in graph) (λ child. joined_rule name child.name d)
+      (λ child. is_some_and (node_of graph child.name) (is_installed d.hash) && is_some_and (edge_of graph name child.name) (is_recorded d)
+      && are_provided graph child.name d.virtuals)
+      (λ child. rw (edge-recorded child.name d, provided-kept child.name d.virtuals) refl) (record_at problem d.hash)
 
   recorded-kept : (entry : Record) → in_graph (each_keeps (recorded_rule problem children name entry) children)
       ≡ list_all (is_child problem entry) (edges_from graph name)

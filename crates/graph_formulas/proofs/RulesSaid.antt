@@ -1,5 +1,5 @@
 -- What the formulas of rules say of the graph that literals spell.
-use Rattle.std.proofs.Common.{filter, ◌≡◌, refl, sym, ap, subst, ◌∙◌, Bool, true, false, not, ◌||◌, ℕ, List, [], ◌∷◌, map, Option, Some, None, inl, inr}
+use Rattle.std.proofs.Common.{filter, ◌≡◌, refl, sym, ap, subst, ◌∙◌, Bool, true, false, not, ◌||◌, ◌&&◌, ℕ, List, [], ◌∷◌, map, Option, Some, None, inl, inr}
 use Rattle.std.specs.Prelude.{if◌then◌else◌}
 use Rattle.std.specs.List.{list_all}
 use Rattle.std.specs.Option.{is_some}
@@ -25,16 +25,16 @@ use Rattle.recipe_data.specs.declared.recipe.RequireRow.{RequireRow}
 use Rattle.problem.specs.Nodes.{has_kind, covers, is_built}
 use Rattle.problem.specs.Problems.{Problem, world_of, variants_at}
 use Rattle.problem.specs.declared.demand.Demand.{Demand}
-use Rattle.graph_rules.specs.Built.{keeps_buildable, keeps_version, keeps_compiler, keeps_machine, keeps_variant, keeps_extra_edge, is_asked, asking, asked_kinds}
-use Rattle.graph_rules.specs.Whole.{keeps_provider, keeps_no_cycle, keeps_reachable, keeps_used, uses}
+use Rattle.graph_rules.specs.Built.{keeps_buildable, keeps_version, keeps_compiler, keeps_machine, keeps_variant, keeps_extra_edge, is_asked, is_asked_virtual, asking, asked_kinds}
+use Rattle.graph_rules.specs.Whole.{keeps_provider, keeps_no_cycle, keeps_reachable, keeps_together, keeps_used, uses}
 use Rattle.graph_rules.specs.Directives.{keeps_root, keeps_edge, keeps_constraint, keeps_conflict, keeps_requirement}
 use Rattle.graph_rules.specs.Kept.{keeps_kept}
 use Rattle.graph_rules.specs.Valid.{keeps, each_built, keeps_demand}
 use Rattle.graph_rules.specs.declared.rule.Rule.TheVariants as rules
-use Rattle.graph_rules.proofs.Lists.{In, list_all-from}
+use Rattle.graph_rules.proofs.Lists.{In, In-among, list_all-each, list_all-from}
 use Rattle.literal_table.specs.Choices.{Choices, chosen, choice_values}
-use Rattle.literal_table.specs.Tables.{Table, block_of, edge_lits_of, table_names, children_of}
-use Rattle.literal_table.specs.Spells.{SpellsNode, SpellsAt, SpellsEdge, chosen_kinds}
+use Rattle.literal_table.specs.Tables.{Table, block_of, edge_lits_of, edge_virtuals, table_names, children_of}
+use Rattle.literal_table.specs.Spells.{SpellsNode, SpellsAt, SpellsEdge, virtuals_in, chosen_kinds}
 use Rattle.literal_table.specs.declared.block.Block.{Block}
 use Rattle.literal_table.specs.declared.block.EdgeLits.{EdgeLits}
 use Rattle.literal_table.proofs.Spelling.{named-so}
@@ -47,16 +47,18 @@ use Rattle.graph_formulas.proofs.Parts.{provider-listed}
 use Rattle.graph_formulas.specs.Terms.{Term, known, met, is_true, term_said, known_rule, where_built, where_there}
 use Rattle.graph_formulas.specs.Directives.{root_rule, edge_rule, constraint_rule, conflict_rule, requirement_rule}
 use Rattle.graph_formulas.specs.Built.{buildable_rule, version_rule, compiler_rule, machine_rule, provider_rule, no_cycle_rule, reachable_rule}
-use Rattle.graph_formulas.specs.Edges.{extra_edge_rule, extra_edges_rule, use_rule, used_rule, may_use, of_provider}
+use Rattle.graph_formulas.specs.Edges.{extra_edge_rule, extra_edges_rule, use_rule, used_rule, of_provider}
+use Rattle.graph_formulas.specs.Together.{together_rule}
 use Rattle.graph_formulas.specs.Variants.{variant_rule, variants_rule, keeps_one_variant}
 use Rattle.graph_formulas.specs.Kept.{origins_in, origins_of, kept_rule}
 use Rattle.graph_formulas.specs.Demands.{demand_rule}
-use Rattle.graph_formulas.specs.Laws.{SpellsProblem, HasVariants, rule_says, if_built, has_name, virtuals_of, variants_in, variants_of}
+use Rattle.graph_formulas.specs.Laws.{SpellsProblem, HasVariants, rule_says, if_built, has_name, virtuals_of, virtuals_on, may_use, variants_in, variants_of}
 use Rattle.graph_formulas.proofs.Names.{all-same, found-ends, each-node-said, each-provider-said, each-edge-said}
 use Rattle.graph_formulas.proofs.Directives.{LeadsToNodes, root-kept, edge-kept, constraint-kept, conflict-kept, requirement-kept, built-kept}
 use Rattle.graph_formulas.proofs.Demands.{demand-kept}
 use Rattle.graph_formulas.proofs.Built.{buildable-kept, version-kept, compiler-kept, machine-kept, provider-kept, no_cycle-kept, reachable-kept}
-use Rattle.graph_formulas.proofs.Edges.{extra_edge-kept, use-kept, of-provider-kept, any-node, any-narrowed, user-asks}
+use Rattle.graph_formulas.proofs.Edges.{extra_edge-kept, of-provider-kept, any-node, any-narrowed}
+use Rattle.graph_formulas.proofs.Together.{together-kept}
 use Rattle.graph_formulas.proofs.VariantRule.{variant-kept}
 use Rattle.graph_formulas.proofs.AllVariants.{spelled-variants, among-In}
 use Rattle.graph_formulas.proofs.KeptNodes.{kept-kept}
@@ -176,24 +178,82 @@ module _ (problem : Problem) (v : ℕ → Bool) (path : Text → Text → Statem
   pub provider-said : (p : Text × Text) → rule_says v path condition table (known_rule (provider_rule problem p)) ≡ keeps_provider problem graph p
   provider-said p = said (known_rule (provider_rule problem p)) ∙ provider-kept problem graph p
 
-  pub use-said : (p : Text × Text) (name : Text) → rule_says v path condition table (use_rule problem p name) ≡ is_some_and (node_of graph name) (uses problem graph p)
-  use-said p name =
-      said (use_rule problem p name)
-      ∙ by_node graph name (λ o. keeps_rule (is_true (world_of problem) graph) (use_rule problem p name) ≡ is_some_and o (uses problem graph p))
-      (λ node here. use-kept problem (names_for table) graph listed name node here p)
-      (λ absent. let none : is_some_and (node_of graph name) is_built ≡ false = rw absent refl in rw none refl)
+  -- where a name has no node, no edge leaves it
+  leaves : (parent child : Text) → node_of graph parent ≡ None → edge_of graph parent child ≡ None
+  leaves parent child absent = leaves-cases (edge_of graph parent child) refl
+    where
+      leaves-cases : (o : Option Edge) → edge_of graph parent child ≡ o → edge_of graph parent child ≡ None
+      leaves-cases None is = is
+      leaves-cases (Some e) is =
+          let found = find_sound pair_total pair_exact ends_of graph.edges (parent, child) e is in
+          let there = subst (HasNode graph) (ap (λ p. p.0) found.1) (All-contains (λ (d : Edge). HasNode graph d.parent) graph.edges e s.is_graph.parents found.0) in
+          absurd (let both : true ≡ false = sym ((has_decides graph parent).1 there) ∙ ap is_some absent in cc)
 
-  asked-edge : (name child : Text) (node : Node) (o : Option Edge) → edge_of graph name child ≡ o → if_written o (λ e. covers (asked_kinds (asking problem graph node child)) e.kinds) ≡ if_written o (is_asked problem graph node)
-  asked-edge name child node None here = refl
+  use-kept : (p : Text × Text) (name : Text) → is_one_text (virtuals_in (edge_of graph name p.1)) p.0 ≡ is_some_and (node_of graph name) (uses graph p)
+  use-kept p name = by_node graph name (λ o. is_one_text (virtuals_in (edge_of graph name p.1)) p.0 ≡ is_some_and o (uses graph p))
+      (λ node here. by_edge (edge_of graph name p.1)
+      ∙ ap (λ n. is_some_and (edge_of graph n p.1) (λ e. is_one_text e.virtuals p.0)) (sym (named-so graph name node here)))
+      (λ absent. ap (λ o. is_one_text (virtuals_in o) p.0) (leaves name p.1 absent))
+    where
+      by_edge : (o : Option Edge) → is_one_text (virtuals_in o) p.0 ≡ is_some_and o (λ e. is_one_text e.virtuals p.0)
+      by_edge None = refl
+      by_edge (Some e) = refl
+
+  pub use-said : (p : Text × Text) (name : Text) → rule_says v path condition table (use_rule p name) ≡ is_some_and (node_of graph name) (uses graph p)
+  use-said p name = said (use_rule p name) ∙ use-kept p name
+
+  -- what an edge names it may name
+  named-may : (parent child q : Text) → In q (virtuals_in (edge_of graph parent child)) → In q (virtuals_on table parent child)
+  named-may parent child q there = chosen-offered v (edge_virtuals table parent child) q
+      (subst (In q) (sym (s.whole.facts.virtuals parent child)) there)
+
+  user-may : (p : Text × Text) (name : Text) → is_some_and (node_of graph name) (uses graph p) ≡ true → may_use table p name ≡ true
+  user-may p name h = among-In (virtuals_on table name p.1) p.0 (named-may name p.1 p.0
+      (In-among (virtuals_in (edge_of graph name p.1)) p.0 (use-kept p name ∙ h)))
+
+  -- what is asked of all that may be named is asked of what is named
+  asked-all : (test : Text → Bool) (few many : List Text) → ((q : Text) → In q few → In q many)
+      → list_all (λ q. implies (is_one_text few q) (test q)) many ≡ list_all test few
+  asked-all test few many within = iff _ _
+      (λ all. list_all-from test few (λ q there. met_here (is_one_text few q) (test q) (among-In few q there)
+      (list_all-each (λ q. implies (is_one_text few q) (test q)) many q all (within q there))))
+      (λ all. list_all-from (λ q. implies (is_one_text few q) (test q)) many (λ q there. elim (cases_Bool (is_one_text few q)) [
+        | inl on ↦ rw on (list_all-each test few q all (In-among few q on))
+        | inr off ↦ rw off refl
+      ]))
+    where
+      met_here : (a b : Bool) → a ≡ true → implies a b ≡ true → b ≡ true
+      met_here true b on h = h
+      met_here false b on h = absurd (let wrong : false ≡ true = on in cc)
+
+      iff : (a b : Bool) → (a ≡ true → b ≡ true) → (b ≡ true → a ≡ true) → a ≡ b
+      iff true b f g = sym (f refl)
+      iff false true f g = g refl
+      iff false false f g = refl
+
+  asked-edge : (name child : Text) (node : Node) (o : Option Edge) → edge_of graph name child ≡ o
+      → (if_written o (λ e. covers (asked_kinds (asking problem graph node child)) e.kinds)
+      && list_all (λ q. implies (is_one_text (virtuals_in o) q) (is_asked_virtual problem graph node child q)) (virtuals_on table name child))
+      ≡ if_written o (is_asked problem graph node)
+  asked-edge name child node None here =
+      asked-all (is_asked_virtual problem graph node child) [] (virtuals_on table name child) (λ q none. absurd none)
   asked-edge name child node (Some e) here =
       let kind = spelled-kind v (edge_lits_of table name child) e (subst (SpellsEdge v (edge_lits_of table name child)) here (s.whole.facts.edges name child)) in
       let c : e.child ≡ child = edge-child graph name child e here in
-      rw kind (ap (λ n. covers (asked_kinds (asking problem graph node n)) e.kinds) (sym c))
+      rw (
+        kind,
+        asked-all (is_asked_virtual problem graph node child) e.virtuals (virtuals_on table name child)
+            (λ q there. named-may name child q (subst (λ o. In q (virtuals_in o)) (sym here) there)),
+      )
+      (ap (λ n. covers (asked_kinds (asking problem graph node n)) e.kinds && list_all (is_asked_virtual problem graph node n) e.virtuals) (sym c))
 
-  pub extra_edge-said : (name child : Text) → rule_says v path condition table (where_built name (extra_edge_rule problem (names_for table) name child)) ≡ if_built graph name (λ node. if_written (edge_of graph name child) (is_asked problem graph node))
+  pub extra_edge-said : (name child : Text) → rule_says v path condition table
+      (where_built name (extra_edge_rule problem (names_for table) (virtuals_on table name child) name child))
+      ≡ if_built graph name (λ node. if_written (edge_of graph name child) (is_asked problem graph node))
   extra_edge-said name child =
-      where-built name (extra_edge_rule problem (names_for table) name child) (λ node. if_written (edge_of graph name child) (is_asked problem graph node))
-      (λ node here. extra_edge-kept problem (names_for table) graph listed name node here leads child ∙ asked-edge name child node (edge_of graph name child) refl)
+      where-built name (extra_edge_rule problem (names_for table) (virtuals_on table name child) name child) (λ node. if_written (edge_of graph name child) (is_asked problem graph node))
+      (λ node here. extra_edge-kept problem (names_for table) graph listed name node here leads (virtuals_on table name child) child
+      ∙ asked-edge name child node (edge_of graph name child) refl)
 
   -- ---- demands
 
@@ -265,13 +325,14 @@ module _ (problem : Problem) (v : ℕ → Bool) (path : Text → Text → Statem
   all-reachable = each-there (λ name. known_rule (reachable_rule problem name)) (keeps_reachable problem graph) reachable-said
 
   pub all-extra_edge : list_all (λ name. rule_says v path condition table
-      (where_built name (extra_edges_rule problem (names_for table) (children_of table name) name))) (table_names table)
+      (where_built name (extra_edges_rule problem (names_for table) (virtuals_on table name) (children_of table name) name))) (table_names table)
       ≡ keeps rules.ExtraEdge problem graph
   unfolding keeps keeps_extra_edge
-  all-extra_edge = each-built (λ name. extra_edges_rule problem (names_for table) (children_of table name) name) (keeps_extra_edge problem graph)
-      (λ name. where-built name (extra_edges_rule problem (names_for table) (children_of table name) name) (keeps_extra_edge problem graph) (λ node here.
-      each-kept (is_true (world_of problem) graph) (extra_edge_rule problem (names_for table) name) (λ child. if_written (edge_of graph name child) (is_asked problem graph node))
-      (λ child. extra_edge-kept problem (names_for table) graph listed name node here leads child ∙ asked-edge name child node (edge_of graph name child) refl) (children_of table name)
+  all-extra_edge = each-built (λ name. extra_edges_rule problem (names_for table) (virtuals_on table name) (children_of table name) name) (keeps_extra_edge problem graph)
+      (λ name. where-built name (extra_edges_rule problem (names_for table) (virtuals_on table name) (children_of table name) name) (keeps_extra_edge problem graph) (λ node here.
+      each-kept (is_true (world_of problem) graph) (λ child. extra_edge_rule problem (names_for table) (virtuals_on table name child) name child)
+      (λ child. if_written (edge_of graph name child) (is_asked problem graph node))
+      (λ child. extra_edge-kept problem (names_for table) graph listed name node here leads (virtuals_on table name child) child ∙ asked-edge name child node (edge_of graph name child) refl) (children_of table name)
       ∙ sym (edges-said name (is_asked problem graph node))
       ∙ ap (λ n. list_all (is_asked problem graph node) (edges_from graph n)) (sym (named-so graph name node here))))
 
@@ -287,18 +348,20 @@ module _ (problem : Problem) (v : ℕ → Bool) (path : Text → Text → Statem
   unfolding keeps
   all-provider = each-by-virtual (λ p. known_rule (provider_rule problem p)) (keeps_provider problem graph) (provider-kept problem graph)
 
-  pub all-used : list_all (λ w. rule_says v path condition table (of_provider (names_for table) (used_rule problem (table_names table)) w))
+  pub all-used : list_all (λ w. rule_says v path condition table (of_provider (names_for table) (used_rule (may_use table) (table_names table)) w))
       (virtuals_of table) ≡ keeps rules.UnusedProvider problem graph
   unfolding keeps keeps_used
-  all-used = each-by-virtual (used_rule problem (table_names table)) (keeps_used problem graph) (λ p.
-      rw (
-        given-kept (is_true (world_of problem) graph) (is_virtual problem.recipes p.0),
-        some-kept (is_true (world_of problem) graph) (use_rule problem p) (λ name. is_some_and (node_of graph name) (uses problem graph p))
-            (λ name. sym (said (use_rule problem p name)) ∙ use-said p name) (filter (may_use problem p.0) (table_names table)),
-        any-narrowed (λ name. is_some_and (node_of graph name) (uses problem graph p)) (may_use problem p.0) (user-asks problem graph p)
-            (table_names table),
-        any-node graph (uses problem graph p) (table_names table) (nodes-said (λ node. not (uses problem graph p node))),
-      ) refl)
+  all-used = each-by-virtual (used_rule (may_use table) (table_names table)) (keeps_used graph) (λ p.
+      some-kept (is_true (world_of problem) graph) (use_rule p) (λ name. is_some_and (node_of graph name) (uses graph p)) (use-kept p)
+      (filter (may_use table p) (table_names table))
+      ∙ any-narrowed (λ name. is_some_and (node_of graph name) (uses graph p)) (may_use table p) (user-may p) (table_names table)
+      ∙ sym (any-node graph (uses graph p) (table_names table) (nodes-said (λ node. not (uses graph p node)))))
+
+  pub all-together : list_all (λ w. rule_says v path condition table (of_provider (names_for table) (together_rule problem (names_for table)) w))
+      (virtuals_of table) ≡ keeps rules.Together problem graph
+  unfolding keeps
+  all-together = each-by-virtual (together_rule problem (names_for table)) (keeps_together problem graph)
+      (together-kept problem (names_for table) graph listed)
 
   pub all-variant : HasVariants problem table
       → list_all (λ name. rule_says v path condition table (where_built name (variants_rule problem (variants_of table name) name)))

@@ -17,15 +17,16 @@ use Rattle.graph_core.specs.declared.node.Kinds.{Kinds}
 use Rattle.condition_rules.specs.Words.{is_some_and, implies}
 use Rattle.problem.specs.Nodes.{has_kind, covers}
 use Rattle.literal_table.specs.Choices.{Choices, chosen, any_choice, choice_lits, is_single}
-use Rattle.literal_table.specs.Tables.{Table, block_of, edge_lits_of, packages_of, variant_choices}
+use Rattle.std.specs.Cmp.Lexicographic.{pointwise}
+use Rattle.literal_table.specs.Tables.{Table, block_of, edge_lits_of, edge_virtuals, packages_of, variant_choices}
 use Rattle.literal_table.specs.Spells.{SpellsOne, SpellsNode, SpellsAt, SpellsEdge, values_at, variants_of, chosen_variants, chosen_kinds, with_values}
 use Rattle.literal_table.specs.declared.block.Block.{Block}
 use Rattle.literal_table.specs.declared.block.EdgeLits.{EdgeLits}
 use Rattle.literal_table.proofs.Choices.{any-chosen, one-true}
 use Rattle.literal_table.proofs.Spelling.{values-spelled}
-use Rattle.graph_formulas.specs.Facts.{Fact, GraphWord, Variants, same_variants, variant_there, is_there, has_origin, has_version, has_compiler, has_os, has_target, has_prefix, has_variant, has_value, has_single, has_variants, node_has, provides_as, has_edge, has_path, is_so, is_in, variant_parts, fact_said, said_in, kind_parts, edge_said, word_said}
+use Rattle.graph_formulas.specs.Facts.{Fact, GraphWord, Variants, same_variants, variant_there, is_there, has_origin, has_version, has_compiler, has_os, has_target, has_prefix, has_variant, has_value, has_single, has_variants, has_virtual, has_virtuals, just_parts, node_has, provides_as, has_edge, has_path, is_so, is_in, variant_parts, fact_said, said_in, kind_parts, edge_said, word_said}
 use Rattle.graph_formulas.specs.Words.{SpellsPaths}
-use Rattle.graph_formulas.proofs.ChosenVariants.{variants-chosen}
+use Rattle.graph_formulas.proofs.ChosenVariants.{just-chosen, variants-chosen}
 
 -- ---- options
 
@@ -207,4 +208,11 @@ word-said v path table graph s (provides_as virtual name) =
     one-chosen v (λ p. bytes_eq p name) (packages_of table virtual) (provider_of graph virtual) (s.facts.providers virtual)
 word-said v path table graph s (has_edge parent child kinds) =
     edge-at v kinds (edge_lits_of table parent child) (edge_of graph parent child) (s.facts.edges parent child)
+word-said v path table graph s (has_virtual parent child virtual) =
+    any-chosen v (bytes_eq virtual) (edge_virtuals table parent child)
+    ∙ ap (list_any (bytes_eq virtual)) (s.facts.virtuals parent child)
+word-said v path table graph s (has_virtuals parent child virtuals) =
+    eval-all_of v (just_parts (edge_virtuals table parent child) virtuals)
+    ∙ just-chosen v (edge_virtuals table parent child) virtuals (s.facts.virtual_order parent child)
+    ∙ ap (λ names. pointwise bytes_eq names virtuals) (s.facts.virtuals parent child)
 word-said v path table graph s (has_path from to) = s.paths from to

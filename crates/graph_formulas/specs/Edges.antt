@@ -1,6 +1,5 @@
 -- The rules of edges that none asks for, and of providers that none uses.
 use Rattle.std.specs.Prelude.{Bool, true, false, ◌&&◌, List, filter, if◌then◌else◌}
-use Rattle.std.specs.List.{list_any}
 use Rattle.std.specs.Str.{bytes_eq}
 use Rattle.clause_formulas.specs.Rules.{Proposition, fact, if_so}
 use Rattle.graph_core.specs.Graphs.{Text}
@@ -10,9 +9,10 @@ use Rattle.graph_core.specs.declared.node.Kinds.{Kinds}
 use Rattle.virtuals.specs.Virtuals.{is_virtual}
 use Rattle.recipe_data.specs.declared.recipe.DependRow.{DependRow}
 use Rattle.problem.specs.Problems.{Problem, world_of, depends_at}
-use Rattle.graph_formulas.specs.Facts.{GraphWord, provides_as, has_edge}
+pub use Rattle.graph_rules.specs.Built.{names_virtual}
+use Rattle.graph_formulas.specs.Facts.{GraphWord, provides_as, has_edge, has_virtual}
 use Rattle.graph_formulas.specs.Lists.{◌and◌, settled_test, one_keeps, each_keeps, some}
-use Rattle.graph_formulas.specs.Terms.{Term, known_rule, met_rule, built_rule}
+use Rattle.graph_formulas.specs.Terms.{Term, known_rule, met_rule}
 
 abbrev pub empty_kinds : Kinds
 empty_kinds = record { build = false; link = false; run = false }
@@ -37,33 +37,32 @@ module _ (problem : Problem) (packages : Text → List Text) where
       if_so (known_rule (fact (has_edge name child kinds)))
       (some (asks_rule name child) (filter (λ row. has row.kinds && may_ask child row) (depends_at problem name)))
 
-  abbrev pub extra_edge_rule : Text → Text → Proposition Term
-  extra_edge_rule name child =
+  -- where the edge names the virtual, the child is its provider, and some row that holds asks for it
+  abbrev pub virtual_rule : Text → Text → Text → Proposition Term
+  virtual_rule name child virtual =
+      if_so (known_rule (fact (has_virtual name child virtual)))
+      (known_rule (fact (provides_as virtual child))
+      and some (λ row. met_rule name row.when) (filter (names_virtual problem virtual) (depends_at problem name)))
+
+  -- of an edge that may name these virtuals
+  abbrev pub extra_edge_rule : List Text → Text → Text → Proposition Term
+  extra_edge_rule virtuals name child =
       kind_rule (record empty_kinds { build = true }) (λ kinds. kinds.build) name child
       and kind_rule (record empty_kinds { link = true }) (λ kinds. kinds.link) name child
       and kind_rule (record empty_kinds { run = true }) (λ kinds. kinds.run) name child
+      and each_keeps (virtual_rule name child) virtuals
 
-  -- of the edges to each of these names
-  abbrev pub extra_edges_rule : List Text → Text → Proposition Term
-  extra_edges_rule children name = each_keeps (extra_edge_rule name) children
+  -- of the edges to each of these names, each of which may name these virtuals
+  abbrev pub extra_edges_rule : (Text → List Text) → List Text → Text → Proposition Term
+  extra_edges_rule virtuals children name = each_keeps (λ child. extra_edge_rule (virtuals child) name child) children
 
--- the row asks for the virtual
-abbrev pub names_virtual : Text → DependRow → Bool
-names_virtual virtual row = is_some_and row.part.name (bytes_eq virtual)
+-- an edge from the name to the provider names the virtual
+abbrev pub use_rule : Text × Text → Text → Proposition Term
+use_rule p name = known_rule (fact (has_virtual name p.1 p.0))
 
-module _ (problem : Problem) where
-  -- the node of the name is built, has an edge to the provider, and a row that holds and asks for the virtual
-  abbrev pub use_rule : Text × Text → Text → Proposition Term
-  use_rule p name =
-      known_rule (built_rule name) and known_rule (fact (has_edge name p.1 empty_kinds))
-      and some (λ row. met_rule name row.when) (filter (names_virtual p.0) (depends_at problem name))
-
-  -- some row of the name asks for the virtual
-  abbrev pub may_use : Text → Text → Bool
-  may_use virtual name = list_any (names_virtual virtual) (depends_at problem name)
-
-  abbrev pub used_rule : List Text → Text × Text → Proposition Term
-  used_rule names p = settled_test (is_virtual problem.recipes p.0) and some (use_rule p) (filter (may_use p.0) names)
+-- so it is of one of these names, from which an edge may
+abbrev pub used_rule : (Text × Text → Text → Bool) → List Text → Text × Text → Proposition Term
+used_rule may_use names p = some (use_rule p) (filter (may_use p) names)
 
 -- the provider of a virtual keeps a rule
 abbrev pub of_provider : (Text → List Text) → (Text × Text → Proposition Term) → Text → Proposition Term

@@ -7,6 +7,7 @@ use Rattle.clause_formulas.specs.Rules.{Proposition, fact, isnt, if_so}
 use Rattle.graph_core.specs.Graphs.{Text}
 use Rattle.graph_core.specs.declared.node.Node.{Node}
 use Rattle.graph_core.specs.declared.node.Kinds.{Kinds}
+use Rattle.reuse_db.specs.declared.record.Dependency.{Dependency}
 use Rattle.graph_core.specs.declared.node.Origin.{Origin}
 use Rattle.graph_core.specs.declared.node.Origin.TheVariants.{Built, External, Installed}
 use Rattle.condition_rules.specs.Words.{is_some_and}
@@ -17,7 +18,7 @@ use Rattle.graph_rules.specs.Kept.{external_node, installed_node}
 use Rattle.literal_table.specs.Choices.{choice_values}
 use Rattle.literal_table.specs.Tables.{Table, block_of}
 use Rattle.literal_table.specs.declared.block.Block.{Block}
-use Rattle.graph_formulas.specs.Facts.{GraphWord, node_has, has_origin, has_version, has_variants, has_compiler, has_os, has_target, has_prefix, has_edge}
+use Rattle.graph_formulas.specs.Facts.{GraphWord, node_has, has_origin, has_version, has_variants, has_compiler, has_os, has_target, has_prefix, has_edge, has_virtuals, provides_as}
 use Rattle.graph_formulas.specs.Lists.{◌and◌, settled_test, one_keeps, each_keeps}
 use Rattle.graph_formulas.specs.Edges.{empty_kinds}
 
@@ -70,13 +71,21 @@ kinds_rule name child kinds =
 
 abbrev pub is_child_name : Problem → Record → Text → Bool
 is_child_name problem entry name =
-    list_any (λ d. is_some_and (record_at problem d.0) (λ child. bytes_eq child.name name)) (kept_dependencies entry)
+    list_any (λ d. is_some_and (record_at problem d.hash) (λ child. bytes_eq child.name name)) (kept_dependencies entry)
+
+-- the package is the provider of each of the virtuals
+abbrev pub provided_rule : Text → List Text → Proposition GraphWord
+provided_rule name virtuals = each_keeps (λ virtual. fact (provides_as virtual name)) virtuals
+
+-- the node is there as the installed one of that hash, with its edge, and provides what is recorded
+abbrev pub joined_rule : Text → Text → Dependency → Proposition GraphWord
+joined_rule name child d =
+    fact (node_has child (has_origin (installs d.hash))) and (kinds_rule name child d.kinds and fact (has_virtuals name child d.virtuals))
+    and provided_rule child d.virtuals
 
 module _ (problem : Problem) (children : List Text) where
-  -- the child is there as the installed node of that hash, with its edge
-  abbrev pub child_rule : Text → (Text × Kinds) → Proposition GraphWord
-  child_rule name d =
-      one_keeps (record_at problem d.0) (λ child. fact (node_has child.name (has_origin (installs d.0))) and kinds_rule name child.name d.1)
+  abbrev pub child_rule : Text → Dependency → Proposition GraphWord
+  child_rule name d = one_keeps (record_at problem d.hash) (λ child. joined_rule name child.name d)
 
   -- an edge goes to a child of the record
   abbrev pub recorded_rule : Text → Record → Text → Proposition GraphWord

@@ -18,10 +18,11 @@ ghost use Rattle.graph_formulas.specs.Terms.{known_rule, where_built, where_ther
 ghost use Rattle.graph_formulas.specs.Directives.{root_rule, edge_rule, constraint_rule, conflict_rule, requirement_rule};
 ghost use Rattle.graph_formulas.specs.Built.{buildable_rule, version_rule, compiler_rule, machine_rule, provider_rule, no_cycle_rule, reachable_rule};
 ghost use Rattle.graph_formulas.specs.Edges.{extra_edges_rule, used_rule, of_provider};
+ghost use Rattle.graph_formulas.specs.Together.{together_rule};
 ghost use Rattle.graph_formulas.specs.Variants.{variants_rule};
 ghost use Rattle.graph_formulas.specs.Kept.{kept_rule, origins_of};
 ghost use Rattle.graph_formulas.specs.Demands.{demand_rule};
-ghost use Rattle.graph_formulas.specs.Laws.{SpellsProblem, HasVariants, rule_says, all_say, if_built, has_name, virtuals_of, variants_of};
+ghost use Rattle.graph_formulas.specs.Laws.{SpellsProblem, HasVariants, rule_says, all_say, if_built, has_name, virtuals_of, virtuals_on, may_use, variants_of};
 
 /// The formula of a demand says whether it is kept, and so do those of each root and directive.
 pub fn demand_laws()
@@ -97,7 +98,7 @@ pub fn structure_laws()
         (condition : Text → Condition → Statement) (table : Table) (graph : Content)
         → SpellsProblem problem v path condition table graph
         → all_say v path condition table
-        (λ name. where_built name (extra_edges_rule problem (names_for table) (children_of table name) name))
+        (λ name. where_built name (extra_edges_rule problem (names_for table) (virtuals_on table name) (children_of table name) name))
         (table_names table) ≡ keeps rules.ExtraEdge problem graph }
     ensures kept { (problem : Problem) (v : ℕ → Bool) (path : Text → Text → Statement)
         (condition : Text → Condition → Statement) (table : Table) (graph : Content)
@@ -115,8 +116,14 @@ pub fn structure_laws()
         (condition : Text → Condition → Statement) (table : Table) (graph : Content)
         → SpellsProblem problem v path condition table graph
         → all_say v path condition table
-        (λ name. of_provider (names_for table) (used_rule problem (table_names table)) name)
+        (λ name. of_provider (names_for table) (used_rule (may_use table) (table_names table)) name)
         (virtuals_of table) ≡ keeps rules.UnusedProvider problem graph }
+    ensures together { (problem : Problem) (v : ℕ → Bool) (path : Text → Text → Statement)
+        (condition : Text → Condition → Statement) (table : Table) (graph : Content)
+        → SpellsProblem problem v path condition table graph
+        → all_say v path condition table
+        (λ name. of_provider (names_for table) (together_rule problem (names_for table)) name)
+        (virtuals_of table) ≡ keeps rules.Together problem graph }
     ensures no_cycle { (problem : Problem) (v : ℕ → Bool) (path : Text → Text → Statement)
         (condition : Text → Condition → Statement) (table : Table) (graph : Content)
         → SpellsProblem problem v path condition table graph

@@ -173,6 +173,7 @@ is_structure rules.Required = false
 is_structure rules.Kept = true
 is_structure rules.Provider = true
 is_structure rules.UnusedProvider = true
+is_structure rules.Together = true
 is_structure rules.Cycle = true
 is_structure rules.Unreachable = true
 
@@ -195,6 +196,7 @@ structure-same made problem graph rules.Required h = absurd cc
 structure-same made problem graph rules.Kept h = keeps-breaks rules.Kept problem graph
 structure-same made problem graph rules.Provider h = keeps-breaks rules.Provider problem graph
 structure-same made problem graph rules.UnusedProvider h = keeps-breaks rules.UnusedProvider problem graph
+structure-same made problem graph rules.Together h = keeps-breaks rules.Together problem graph
 structure-same made problem graph rules.Cycle h = keeps-breaks rules.Cycle problem graph
 structure-same made problem graph rules.Unreachable h = keeps-breaks rules.Unreachable problem graph
 
@@ -297,8 +299,9 @@ module _ (problem : Problem) (graph : Content) (g : IsGraph graph) (asked : List
     each-made rules.Kept = structure-made rules.Kept (slice_get-in structure_rules 6 rules.Kept refl)
     each-made rules.Provider = structure-made rules.Provider (slice_get-in structure_rules 7 rules.Provider refl)
     each-made rules.UnusedProvider = structure-made rules.UnusedProvider (slice_get-in structure_rules 8 rules.UnusedProvider refl)
-    each-made rules.Cycle = structure-made rules.Cycle (slice_get-in structure_rules 9 rules.Cycle refl)
-    each-made rules.Unreachable = structure-made rules.Unreachable (slice_get-in structure_rules 10 rules.Unreachable refl)
+    each-made rules.Together = structure-made rules.Together (slice_get-in structure_rules 9 rules.Together refl)
+    each-made rules.Cycle = structure-made rules.Cycle (slice_get-in structure_rules 10 rules.Cycle refl)
+    each-made rules.Unreachable = structure-made rules.Unreachable (slice_get-in structure_rules 11 rules.Unreachable refl)
 
     said-valid : verdict_for asked problem graph ≡ verdicts.Valid
     unfolding verdict_of

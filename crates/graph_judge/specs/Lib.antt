@@ -1,3 +1,4 @@
 -- inside
 pub mod Asked
 pub mod Places
+pub mod Answered

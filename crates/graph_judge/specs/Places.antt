@@ -10,13 +10,15 @@ use Rattle.problem.specs.Problems.{Problem}
 use Rattle.graph_rules.specs.Built.{keeps_buildable, keeps_version, keeps_variant, keeps_compiler, keeps_machine, keeps_extra_edge}
 use Rattle.graph_rules.specs.Directives.{keeps_edge, keeps_constraint}
 use Rattle.graph_rules.specs.Kept.{keeps_kept}
-use Rattle.graph_rules.specs.Whole.{keeps_provider, keeps_used, keeps_no_cycle, keeps_reachable}
+use Rattle.graph_rules.specs.Whole.{keeps_provider, keeps_used, keeps_together, keeps_no_cycle, keeps_reachable}
 use Rattle.graph_rules.specs.Verdict.{Place, Asked, keeps_asked_row, keeps_asked_setting}
 use Rattle.graph_rules.specs.declared.rule.Rule.{Rule}
 use Rattle.graph_rules.specs.declared.rule.Verdict.{Verdict}
 use Rattle.graph_rules.specs.declared.rule.Verdict.TheVariants as verdicts
 use Rattle.graph_judge.specs.declared.nodes.NodeRule.{NodeRule}
 use Rattle.graph_judge.specs.declared.nodes.NodeRule.TheVariants as rules
+use Rattle.graph_judge.specs.declared.others.ProviderRule.{ProviderRule}
+use Rattle.graph_judge.specs.declared.others.ProviderRule.TheVariants as of_provider
 
 -- no place where the rule is kept, and else this one
 abbrev pub unless : Bool → Place → List Place
@@ -65,10 +67,10 @@ settings_places asked rows_at test nodes = flat_map (λ node. setting_places ask
 
 -- ---- providers
 
--- a provider is kept in that it is used, or in that it provides
-abbrev pub provider_test : Bool → Problem → Content → (Text × Text) → Bool
-provider_test true problem graph p = keeps_used problem graph p
-provider_test false problem graph p = keeps_provider problem graph p
+abbrev pub provider_test : ProviderRule → Problem → Content → (Text × Text) → Bool
+provider_test of_provider.Provider problem graph p = keeps_provider problem graph p
+provider_test of_provider.UnusedProvider problem graph p = keeps_used graph p
+provider_test of_provider.Together problem graph p = keeps_together problem graph p
 
 abbrev pub providers_places : ((Text × Text) → Bool) → List (Text × Text) → List Place
 providers_places test providers = flat_map (λ p. unless (test p) (p.0, 0)) providers

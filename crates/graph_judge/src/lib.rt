@@ -1,7 +1,8 @@
 //! The verdict on a graph.
 //!
-//! What it is: `judge`, which names the first broken rule of a valid graph, and `judge_for`, which
-//! does so where only some roots, directives and requirements of the settings are asked.
+//! What it is: `judge`, which names the first broken rule of a valid graph, `judge_for`, which
+//! does so where only some roots, directives and requirements of the settings are asked, and
+//! `name_virtuals`, which names the virtuals on the edges of a graph that was read without them.
 //! What it promises: they answer what `graph_rules` computes as `verdict` and `verdict_for`; so
 //! Valid exactly where no rule is broken, and else the first broken rule, there the least node by
 //! bytes, and there the least number.
@@ -10,6 +11,7 @@
 #![tactic(auto)]
 
 mod asked;
+mod names;
 mod nodes;
 mod others;
 mod places;
@@ -17,4 +19,5 @@ mod rows;
 mod settings;
 mod verdict;
 
+pub use names::name_virtuals;
 pub use verdict::{judge, judge_for};

@@ -8,7 +8,7 @@ use crate::places::add_unless;
 use condition_rules::Paths;
 use plain_data::Word;
 use problem::{Explored, Problem};
-use rule_checks::{keeps_provider, keeps_root, keeps_used};
+use rule_checks::{keeps_provider, keeps_root, keeps_together, keeps_used};
 use spec_grammar::Spec;
 use std::alloc::{AllocError, Global};
 
@@ -62,52 +62,59 @@ pub(crate) fn root_places<D: AskedDemands>(
 
 // ---- providers
 
+/// The rules that are said of each provider.
+#[derive(Debug, Clone, Copy, PartialEq, Eq)]
+pub(crate) enum ProviderRule {
+    Provider,
+    UnusedProvider,
+    Together,
+}
+
 fn provider_test(
-    alloc: Global,
-    used: bool,
+    rule: ProviderRule,
     problem: &Problem,
     graph: &Explored,
     provider: &(Word, Word),
-) -> Result<bool, AllocError>
-    ensures { IfOk result (λ kept. kept ≡ provider_test used problem.now graph.now provider.now) }
+) -> bool
+    ensures { result ≡ provider_test rule problem.now graph.now provider.now }
 {
-    if used {
-        keeps_used(alloc, problem, graph, provider)
-    } else {
-        Ok(keeps_provider(problem, graph, provider))
+    match rule {
+        ProviderRule::Provider => keeps_provider(problem, graph, provider),
+        ProviderRule::UnusedProvider => keeps_used(graph, provider),
+        ProviderRule::Together => keeps_together(problem, graph, provider),
     }
 }
 
 fn add_providers(
     alloc: Global,
     places: &mut Vec<(Word, u64)>,
-    used: bool,
+    rule: ProviderRule,
     problem: &Problem,
     graph: &Explored,
     providers: &[(Word, Word)],
 ) -> Result<(), AllocError>
     ensures { OnOk result (places.new.items ≡ places.old.items
-        ++ providers_places (provider_test used problem.now graph.now) providers.now) }
+        ++ providers_places (provider_test rule problem.now graph.now) providers.now) }
 {
     for provider in providers {
-        let kept = provider_test(alloc, used, problem, graph, provider)?;
+        let kept = provider_test(rule, problem, graph, provider);
         add_unless(alloc, places, kept, provider.0.as_str(), 0)?;
     }
     Ok(())
 }
 
-/// The virtuals whose provider does not provide them, or is not used.
+/// The virtuals whose provider breaks the rule.
 pub(crate) fn provider_places(
     alloc: Global,
-    used: bool,
+    rule: ProviderRule,
     problem: &Problem,
     graph: &Explored,
 ) -> Result<Vec<(Word, u64)>, AllocError>
     ensures { IfOk result (λ places. places.items
-        ≡ broken_providers (provider_test used problem.now graph.now) graph.now) }
+        ≡ broken_providers (provider_test rule problem.now graph.now) graph.now) }
 {
     let mut places = Vec::new(alloc);
     let providers = graph.graph().providers();
-    add_providers(alloc, &mut places, used, problem, graph, providers)?;
+    add_providers(alloc, &mut places, rule, problem, graph, providers)?;
     Ok(places)
 }

@@ -9,7 +9,7 @@ ghost use Rattle.graph_judge.specs.Places.{found_of};
 
 use crate::asked::{All, AskedDemands, Listed};
 use crate::nodes::{NodeRule, node_places};
-use crate::others::{provider_places, root_places};
+use crate::others::{ProviderRule, provider_places, root_places};
 use crate::places::least_of;
 use crate::rows::{conflict_places, depend_places, requirement_places};
 use crate::settings::setting_places;
@@ -20,7 +20,7 @@ use problem::{Explored, Problem};
 use std::alloc::{AllocError, Global};
 
 // The rules, in the order in which a broken one is named.
-const RULES: [Rule; 17] = [
+const RULES: [Rule; 18] = [
     Rule::Root,
     Rule::Buildable,
     Rule::Version,
@@ -36,6 +36,7 @@ const RULES: [Rule; 17] = [
     Rule::Kept,
     Rule::Provider,
     Rule::UnusedProvider,
+    Rule::Together,
     Rule::Cycle,
     Rule::Unreachable,
 ];
@@ -66,8 +67,11 @@ fn places_of<D: AskedDemands>(
         Rule::Requirement => requirement_places(alloc, problem, graph, asked),
         Rule::Required => setting_places(alloc, problem, graph, asked),
         Rule::Kept => node_places(alloc, NodeRule::Kept, problem, graph),
-        Rule::Provider => provider_places(alloc, false, problem, graph),
-        Rule::UnusedProvider => provider_places(alloc, true, problem, graph),
+        Rule::Provider => provider_places(alloc, ProviderRule::Provider, problem, graph),
+        Rule::UnusedProvider => {
+            provider_places(alloc, ProviderRule::UnusedProvider, problem, graph)
+        }
+        Rule::Together => provider_places(alloc, ProviderRule::Together, problem, graph),
         Rule::Cycle => node_places(alloc, NodeRule::Cycle, problem, graph),
         Rule::Unreachable => node_places(alloc, NodeRule::Unreachable, problem, graph),
     }

@@ -21,10 +21,10 @@ use Rattle.problem.specs.OfGraphCore.Edge.{Edge}
 use Rattle.problem.specs.OfGraphCore.Kinds.{Kinds}
 use Rattle.problem.specs.OfGraphCore.Origin.{Origin}
 use Rattle.problem.specs.OfGraphCore.OriginVariants.{Built, External, Installed}
-use Rattle.graph_rules.proofs.Lists.{In, In-among, In-contains, contains-In, list_all-each, find-in, In-left, In-right, In-map, In-flat_map, from_filter, any-in, in-any, to_filter, to_filter_map, some-and, and_then, bytes_eq-same, bytes_eq-itself}
+use Rattle.graph_rules.proofs.Lists.{In, In-among, In-contains, contains-In, list_all-each, find-in, In-left, In-right, In-map, In-flat_map, from_map, from_filter, any-in, in-any, to_filter, to_filter_map, some-and, and_then, bytes_eq-same, bytes_eq-itself}
 use Rattle.problem.proofs.OfKeyedLists.TextLaws.{texts_decide}
 use Rattle.problem.specs.OfConditionRules.Worlds.{recipe_of, rows}
-use Rattle.problem.specs.OfVirtuals.Virtuals.{is_virtual}
+use Rattle.problem.specs.OfVirtuals.Virtuals.{is_virtual, provides_name}
 use Rattle.problem.specs.OfConditionRules.Meets.{provides, row_provides}
 use Rattle.problem.specs.OfConditionRules.Holds.{asked_node}
 use Rattle.problem.specs.OfRecipeData.DependRow.{DependRow}
@@ -120,6 +120,40 @@ module _ (problem : Problem) (graph : Content) (g : IsGraph graph) (k : keeps_al
       mapped None p is = absurd (let wrong : None ≡ Some p = is in cc)
       mapped (Some q) p is = (q, refl, let same : q.1 ≡ p = cc in same)
 
+  -- the provider of a virtual is one of the packages that may provide it
+  pub provided-possible : (name p : Text) → provider_of graph name ≡ Some p → In p (possible_providers problem name)
+  unfolding keeps keeps_provider provides recipe_of
+  provided-possible name p is =
+      let pair = mapped (find_key byte_cmp virtual_of graph.providers name) is in
+      let in_providers = find-in (λ (q : Text × Text). eq_by_cmp byte_cmp q.0 name) graph.providers pair.0 pair.1 in
+      let right = list_all-each (keeps_provider problem graph) graph.providers pair.0
+      (rule rules.Provider (slice_get-in structure_rules 7 rules.Provider refl)) in_providers.0 in
+      let node = some-and (node_of graph pair.0.1) _ right in
+      let gives = any-in (row_provides (world_of problem) node.0 pair.0.0 None)
+      (rows (λ recipe. recipe.provides) (recipe_at problem node.0.name)) node.2 in
+      let of = row-of (λ recipe. recipe.provides) (recipe_at problem node.0.name) gives.0 gives.1 in
+      let in_recipes = find-in _ problem.recipes of.0 of.1 in
+      let named : bytes_eq gives.0.name name ≡ true =
+      subst (λ v. bytes_eq gives.0.name v ≡ true) ((texts_decide pair.0.0 name).0 in_providers.1)
+      (and_parts _ _ (and_parts _ _ gives.2).0).0 in
+      let member = In-map (λ (recipe : Recipe). recipe.name) _ of.0
+      (to_filter (λ recipe. list_any (λ row. bytes_eq row.name name) recipe.provides) problem.recipes of.0 in_recipes.0
+      (in-any (λ row. bytes_eq row.name name) of.0.provides gives.0 of.2 named)) in
+      subst (λ n. In n (possible_providers problem name)) ((texts_decide of.0.name node.0.name).0 in_recipes.1
+      ∙ (texts_decide node.0.name pair.0.1).0 (find-in _ graph.nodes node.0 node.1).1 ∙ pair.2) member
+    where
+      mapped : (o : Option (Text × Text)) → option_map (λ q. q.1) o ≡ Some p → (q : Text × Text) × (o ≡ Some q) × (q.1 ≡ p)
+      mapped None is = absurd (let wrong : None ≡ Some p = is in cc)
+      mapped (Some q) is = (q, refl, let same : q.1 ≡ p = cc in same)
+
+  -- what some package may provide is a virtual
+  pub virtual-there : (name p : Text) → In p (possible_providers problem name) → is_virtual problem.recipes name ≡ true
+  unfolding is_virtual provides_name
+  virtual-there name p there =
+      let image = from_map (λ (recipe : Recipe). recipe.name) _ p there in
+      let from = from_filter (λ (recipe : Recipe). list_any (λ row. bytes_eq row.name name) recipe.provides) problem.recipes image.0 image.1 in
+      in-any (λ (recipe : Recipe). list_any (λ row. bytes_eq row.name name) recipe.provides) problem.recipes image.0 from.0 from.1
+
   -- some row asks for an edge that is asked for
   some_row : (asked : List DependRow) (kinds : Kinds) → has_kind kinds ≡ true → covers (asked_kinds asked) kinds ≡ true → (row : DependRow)
       × In row asked
@@ -143,7 +177,7 @@ module _ (problem : Problem) (graph : Content) (g : IsGraph graph) (k : keeps_al
   brings node e there from Built is h =
       let extra = at_built (keeps_extra_edge problem graph) graph node
       (rule rules.ExtraEdge (slice_get-in structure_rules 5 rules.ExtraEdge refl)) there (built_origin node is) in
-      let asked = and_parts _ _ (list_all-each (is_asked problem graph node) (edges_from graph node.name) e extra from) in
+      let asked = and_parts _ _ (and_parts _ _ (list_all-each (is_asked problem graph node) (edges_from graph node.name) e extra from)).0 in
       let row = some_row (asking problem graph node e.child) e.kinds asked.0 asked.1 in
       let in_rows = from_filter _ (depends_at problem node.name) row.0 row.1 in
       let target = some-and (asked_by problem graph row.0) _ (and_parts _ _ in_rows.1).1 in
@@ -160,8 +194,8 @@ module _ (problem : Problem) (graph : Content) (g : IsGraph graph) (k : keeps_al
       (and_parts _ _ (and_parts _ _ (and_parts _ _ (and_parts _ _ (and_parts _ _ (and_parts _ _ parts.0).0).0).0).0).0).0).0 in
       let dependency = any-in _ (kept_dependencies found.0)
       (list_all-each (is_child problem found.0) (edges_from graph node.name) e parts.1 from) in
-      let child = some-and (record_at problem dependency.0.0) _ dependency.2 in
-      let in_names = to_filter_map (λ d. option_map (λ c. c.name) (record_at problem d.0)) (kept_dependencies found.0) dependency.0
+      let child = some-and (record_at problem dependency.0.hash) _ dependency.2 in
+      let in_names = to_filter_map (λ d. option_map (λ c. c.name) (record_at problem d.hash)) (kept_dependencies found.0) dependency.0
       child.0.name dependency.1 (ap (option_map (λ (c : Record). c.name)) child.1) in
       let in_records = to_filter (λ entry. bytes_eq entry.name node.name) problem.database found.0
       (find-in _ problem.database found.0 found.1).0 (ap (λ n. bytes_eq n node.name) (sym (bytes_eq-same node.name found.0.name same))
@@ -230,7 +264,7 @@ module _ (problem : Problem) (graph : Content) (g : IsGraph graph) (k : keeps_al
     unfolding keeps keeps_reachable is_closed
     node-closed node there =
         let needed = any-in _ problem.roots (list_all-each (keeps_reachable problem graph) graph.nodes node
-        (rule rules.Unreachable (slice_get-in structure_rules 10 rules.Unreachable refl)) there) in
+        (rule rules.Unreachable (slice_get-in structure_rules 11 rules.Unreachable refl)) there) in
         let root = some-and needed.0.top.name _ needed.2 in
         let held : has_known problem names root.0 ≡ true =
         subst (λ (o : Option Text). if_written o (has_known problem names) ≡ true) root.1

@@ -15,7 +15,7 @@ use Rattle.problem.specs.OfSiteSettings.ExternalEntry.{ExternalEntry}
 use Rattle.problem.specs.OfReuseDb.Record.{Record}
 
 -- lists whose elements are equal by a test are equal
-lists-same : {X : Type 0} (e : X → X → Bool) → ((x y : X) → e x y ≡ true → x ≡ y) → (xs ys : List X) → pointwise e xs ys ≡ true → xs ≡ ys
+pub lists-same : {X : Type 0} (e : X → X → Bool) → ((x y : X) → e x y ≡ true → x ≡ y) → (xs ys : List X) → pointwise e xs ys ≡ true → xs ≡ ys
 lists-same e same [] [] h = refl
 lists-same e same [] (y ∷ ys) h = absurd cc
 lists-same e same (x ∷ xs) [] h = absurd cc

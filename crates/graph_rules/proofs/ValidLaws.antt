@@ -157,8 +157,9 @@ stands rules.Required = slice_get-in all_rules 11 rules.Required refl
 stands rules.Kept = slice_get-in all_rules 12 rules.Kept refl
 stands rules.Provider = slice_get-in all_rules 13 rules.Provider refl
 stands rules.UnusedProvider = slice_get-in all_rules 14 rules.UnusedProvider refl
-stands rules.Cycle = slice_get-in all_rules 15 rules.Cycle refl
-stands rules.Unreachable = slice_get-in all_rules 16 rules.Unreachable refl
+stands rules.Together = slice_get-in all_rules 15 rules.Together refl
+stands rules.Cycle = slice_get-in all_rules 16 rules.Cycle refl
+stands rules.Unreachable = slice_get-in all_rules 17 rules.Unreachable refl
 
 -- a valid graph keeps each rule
 pub rule-of : (problem : Problem) (graph : Content) (rule : Rule) → valid problem graph ≡ true → keeps rule problem graph ≡ true
@@ -393,8 +394,9 @@ module _ (problem : Problem) (graph : Content) (g : IsGraph graph) (v : valid_fo
   each-from rules.Kept = structure-from rules.Kept (slice_get-in structure_rules 6 rules.Kept refl)
   each-from rules.Provider = structure-from rules.Provider (slice_get-in structure_rules 7 rules.Provider refl)
   each-from rules.UnusedProvider = structure-from rules.UnusedProvider (slice_get-in structure_rules 8 rules.UnusedProvider refl)
-  each-from rules.Cycle = structure-from rules.Cycle (slice_get-in structure_rules 9 rules.Cycle refl)
-  each-from rules.Unreachable = structure-from rules.Unreachable (slice_get-in structure_rules 10 rules.Unreachable refl)
+  each-from rules.Together = structure-from rules.Together (slice_get-in structure_rules 9 rules.Together refl)
+  each-from rules.Cycle = structure-from rules.Cycle (slice_get-in structure_rules 10 rules.Cycle refl)
+  each-from rules.Unreachable = structure-from rules.Unreachable (slice_get-in structure_rules 11 rules.Unreachable refl)
 
   -- a graph that is valid for all demands is valid
   pub valid-from_demands : valid problem graph ≡ true

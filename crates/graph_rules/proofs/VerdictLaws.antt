@@ -97,6 +97,7 @@ keeps-breaks rules.Required problem graph = failing_settings (required_at proble
 keeps-breaks rules.Kept problem graph = failing _ _ graph.nodes
 keeps-breaks rules.Provider problem graph = failing _ _ graph.providers
 keeps-breaks rules.UnusedProvider problem graph = failing _ _ graph.providers
+keeps-breaks rules.Together problem graph = failing _ _ graph.providers
 keeps-breaks rules.Cycle problem graph = failing _ _ graph.nodes
 keeps-breaks rules.Unreachable problem graph = failing _ _ graph.nodes
 

@@ -14,6 +14,7 @@ use Rattle.problem.specs.OfConditionRules.Holds.{governing}
 use Rattle.problem.specs.OfRecipeData.VariantRow.{VariantRow}
 use Rattle.problem.specs.OfRecipeData.DependRow.{DependRow}
 use Rattle.problem.specs.OfRecipeData.Right.{is_count_of}
+use Rattle.problem.specs.OfVirtuals.Virtuals.{is_virtual}
 use Rattle.problem.specs.Problems.{world_of, recipe_at, versions_at, variants_at, depends_at, package_entry_of, is_buildable_in, same_compiler, applies, asked_by, Problem}
 use Rattle.problem.specs.OfSiteSettings.CompilerEntry.{CompilerEntry}
 
@@ -83,10 +84,20 @@ asked_kinds rows = record {
       list_any (λ row. row.kinds.run) rows;
 }
 
--- an edge of a built node has a kind, and no kind that none asks for
-abbrev pub is_asked : Problem → Content → Node → Edge → Bool
-is_asked problem graph node e = has_kind e.kinds && covers (asked_kinds (asking problem graph node e.child)) e.kinds
+-- the row of `depends_on` asks for this virtual
+abbrev pub names_virtual : Problem → Text → DependRow → Bool
+names_virtual problem virtual row = is_virtual problem.recipes virtual && is_some_and row.part.name (bytes_eq virtual)
 
--- ExtraEdge: each edge, and each kind on it, is asked for
+-- some row that holds asks for this virtual, of which the child is the provider
+abbrev pub is_asked_virtual : Problem → Content → Node → Text → Text → Bool
+is_asked_virtual problem graph node child virtual = list_any (names_virtual problem virtual) (asking problem graph node child)
+
+-- an edge of a built node has a kind, and no kind and no virtual that none asks for
+abbrev pub is_asked : Problem → Content → Node → Edge → Bool
+is_asked problem graph node e =
+    has_kind e.kinds && covers (asked_kinds (asking problem graph node e.child)) e.kinds
+    && list_all (is_asked_virtual problem graph node e.child) e.virtuals
+
+-- ExtraEdge: each edge, each kind on it and each virtual that it names is asked for
 unfoldable pub keeps_extra_edge : Problem → Content → Node → Bool
 keeps_extra_edge problem graph node = list_all (is_asked problem graph node) (edges_from graph node.name)

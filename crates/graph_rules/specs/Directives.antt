@@ -2,10 +2,12 @@
 use Rattle.std.specs.Prelude.{Bool, ◌&&◌, ◌==◌, not, count_by, if◌then◌else◌}
 use Rattle.std.specs.List.{list_any}
 use Rattle.problem.specs.OfSpecGrammar.Spec.{Spec}
-use Rattle.problem.specs.OfConditionRules.Words.{implies, is_some_and}
+use Rattle.problem.specs.OfConditionRules.Words.{implies, if_written, is_one_text, is_some_and}
 use Rattle.problem.specs.OfGraphCore.Graphs.{Content, edge_of}
 use Rattle.problem.specs.Nodes.{covers}
 use Rattle.problem.specs.OfGraphCore.Node.{Node}
+use Rattle.problem.specs.OfGraphCore.Edge.{Edge}
+use Rattle.problem.specs.OfVirtuals.Virtuals.{is_virtual}
 use Rattle.problem.specs.OfConditionRules.Holds.{holds, asked_node, suits}
 use Rattle.problem.specs.OfRecipeData.DependRow.{DependRow}
 use Rattle.problem.specs.OfRecipeData.ConflictRow.{ConflictRow}
@@ -16,11 +18,16 @@ use Rattle.problem.specs.Problems.{world_of, applies, asked_by, Problem}
 unfoldable pub keeps_root : Problem → Content → Spec → Bool
 keeps_root problem graph spec = is_some_and spec.top.name (holds (world_of problem) spec graph)
 
--- Edge: where the directive holds, an edge with all its kinds goes to the node that it asks for
+-- the edge has all kinds of the directive, and names the virtual where the directive asks for one
+abbrev pub answers : Problem → DependRow → Edge → Bool
+answers problem row e =
+    covers e.kinds row.kinds && if_written row.part.name (λ name. implies (is_virtual problem.recipes name) (is_one_text e.virtuals name))
+
+-- Edge: where the directive holds, an edge that answers it goes to the node that it asks for
 unfoldable pub keeps_edge : Problem → Content → Node → DependRow → Bool
 keeps_edge problem graph node row =
     implies (applies problem graph row.when node)
-    (is_some_and (asked_by problem graph row) (λ child. is_some_and (edge_of graph node.name child.name) (λ e. covers e.kinds row.kinds)))
+    (is_some_and (asked_by problem graph row) (λ child. is_some_and (edge_of graph node.name child.name) (answers problem row)))
 
 -- Constraint: where the directive holds, its part holds at the node that it asks for
 unfoldable pub keeps_constraint : Problem → Content → Node → DependRow → Bool

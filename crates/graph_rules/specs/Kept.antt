@@ -5,7 +5,7 @@ use Rattle.std.specs.Str.{bytes_eq}
 use Rattle.std.specs.Cmp.Lexicographic.{pointwise}
 use Rattle.std.specs.Option.{option_eq}
 use Rattle.problem.specs.OfVariantValues.Texts.{with_texts}
-use Rattle.problem.specs.OfGraphCore.Graphs.{Text, Content, node_of, edge_of, edges_from}
+use Rattle.problem.specs.OfGraphCore.Graphs.{Text, Content, node_of, edge_of, edges_from, provider_of}
 use Rattle.problem.specs.OfConditionRules.Words.{is_some_and, find_last}
 use Rattle.problem.specs.Nodes.{is_installed, covers}
 use Rattle.problem.specs.OfGraphCore.Node.{Node}
@@ -16,6 +16,7 @@ use Rattle.problem.specs.OfGraphCore.OriginVariants.{Built, External, Installed}
 use Rattle.problem.specs.OfRecipeData.VariantRow.{VariantRow}
 use Rattle.problem.specs.Problems.{variants_at, package_entry_of, externals_in, same_compiler, record_at, Problem}
 use Rattle.problem.specs.OfSiteSettings.ExternalEntry.{ExternalEntry}
+use Rattle.problem.specs.OfReuseDb.Dependency.{Dependency}
 use Rattle.problem.specs.OfReuseDb.Record.{Record}
 use Rattle.problem.specs.Records.{kept_dependencies}
 
@@ -87,15 +88,24 @@ installed_node entry = record {
 abbrev pub has_kinds : Kinds → Edge → Bool
 has_kinds kinds e = let kept : Kinds = record kinds { build = false } in covers e.kinds kept && covers kept e.kinds
 
--- the child is there as the installed node of that hash, with its edge
-abbrev pub keeps_child : Problem → Content → Text → (Text × Kinds) → Bool
+-- and it names just the virtuals that are recorded
+abbrev pub is_recorded : Dependency → Edge → Bool
+is_recorded d e = has_kinds d.kinds e && pointwise bytes_eq e.virtuals d.virtuals
+
+-- each of the virtuals has the package as its provider
+abbrev pub are_provided : Content → Text → List Text → Bool
+are_provided graph name virtuals = list_all (λ virtual. is_some_and (provider_of graph virtual) (λ p. bytes_eq p name)) virtuals
+
+-- the child is there as the installed node of that hash, with its edge, and is the provider of what it is recorded to provide
+abbrev pub keeps_child : Problem → Content → Text → Dependency → Bool
 keeps_child problem graph name d =
-    is_some_and (record_at problem d.0) (λ child.
-    is_some_and (node_of graph child.name) (is_installed d.0) && is_some_and (edge_of graph name child.name) (has_kinds d.1))
+    is_some_and (record_at problem d.hash) (λ child.
+    is_some_and (node_of graph child.name) (is_installed d.hash) && is_some_and (edge_of graph name child.name) (is_recorded d)
+    && are_provided graph child.name d.virtuals)
 
 -- the edge goes to a child of the record
 abbrev pub is_child : Problem → Record → Edge → Bool
-is_child problem entry e = list_any (λ d. is_some_and (record_at problem d.0) (λ child. bytes_eq child.name e.child))
+is_child problem entry e = list_any (λ d. is_some_and (record_at problem d.hash) (λ child. bytes_eq child.name e.child))
     (kept_dependencies entry)
 
 -- ---- the rule
@@ -113,6 +123,6 @@ keeps_origin problem graph node (Installed hash) =
     && list_all (is_child problem entry) (edges_from graph node.name))
 
 -- Kept: a built node has no prefix, an external is its completed entry and has no edge, and an installed
--- node is its record, with edges exactly to the link and run children
+-- node is its record, with edges exactly to the link and run children, and the virtuals that these provide
 unfoldable pub keeps_kept : Problem → Content → Node → Bool
 keeps_kept problem graph node = keeps_origin problem graph node node.origin

@@ -9,7 +9,7 @@ use Rattle.problem.specs.Problems.{depends_at, conflicts_at, requirements_at, re
 use Rattle.graph_rules.specs.Built.{keeps_buildable, keeps_version, keeps_variant, keeps_compiler, keeps_machine, keeps_extra_edge}
 use Rattle.graph_rules.specs.Directives.{keeps_root, keeps_edge, keeps_constraint, keeps_conflict, keeps_requirement}
 use Rattle.graph_rules.specs.Kept.{keeps_kept}
-use Rattle.graph_rules.specs.Whole.{keeps_provider, keeps_used, keeps_no_cycle, keeps_reachable}
+use Rattle.graph_rules.specs.Whole.{keeps_provider, keeps_used, keeps_together, keeps_no_cycle, keeps_reachable}
 use Rattle.graph_rules.specs.declared.rule.Rule.{Rule}
 use Rattle.graph_rules.specs.declared.rule.Rule.TheVariants as rules
 use Rattle.problem.specs.declared.demand.Demand.{Demand}
@@ -39,7 +39,8 @@ keeps rules.Requirement problem graph =
 keeps rules.Required problem graph = list_all (λ node. list_all (keeps_requirement problem graph node) (required_at problem node.name)) graph.nodes
 keeps rules.Kept problem graph = list_all (keeps_kept problem graph) graph.nodes
 keeps rules.Provider problem graph = list_all (keeps_provider problem graph) graph.providers
-keeps rules.UnusedProvider problem graph = list_all (keeps_used problem graph) graph.providers
+keeps rules.UnusedProvider problem graph = list_all (keeps_used graph) graph.providers
+keeps rules.Together problem graph = list_all (keeps_together problem graph) graph.providers
 keeps rules.Cycle problem graph = list_all (keeps_no_cycle graph) graph.nodes
 keeps rules.Unreachable problem graph = list_all (keeps_reachable problem graph) graph.nodes
 
@@ -50,8 +51,8 @@ keeps_all asked problem graph = list_all (λ rule. keeps rule problem graph) ask
 abbrev pub all_rules : List Rule
 all_rules =
     rules.Root ∷ rules.Buildable ∷ rules.Version ∷ rules.Variant ∷ rules.Compiler ∷ rules.Machine ∷ rules.Edge ∷ rules.ExtraEdge
-    ∷ rules.Constraint ∷ rules.Conflict ∷ rules.Requirement ∷ rules.Required ∷ rules.Kept ∷ rules.Provider ∷ rules.UnusedProvider ∷ rules.Cycle
-    ∷ rules.Unreachable ∷ []
+    ∷ rules.Constraint ∷ rules.Conflict ∷ rules.Requirement ∷ rules.Required ∷ rules.Kept ∷ rules.Provider ∷ rules.UnusedProvider
+    ∷ rules.Together ∷ rules.Cycle ∷ rules.Unreachable ∷ []
 
 -- no rule is broken
 unfoldable pub valid : Problem → Content → Bool
@@ -63,7 +64,7 @@ valid problem graph = keeps_all all_rules problem graph
 abbrev pub structure_rules : List Rule
 structure_rules =
     rules.Buildable ∷ rules.Version ∷ rules.Variant ∷ rules.Compiler ∷ rules.Machine ∷ rules.ExtraEdge
-    ∷ rules.Kept ∷ rules.Provider ∷ rules.UnusedProvider ∷ rules.Cycle ∷ rules.Unreachable ∷ []
+    ∷ rules.Kept ∷ rules.Provider ∷ rules.UnusedProvider ∷ rules.Together ∷ rules.Cycle ∷ rules.Unreachable ∷ []
 
 -- no directive with this number is broken at the node
 abbrev pub keeps_directive : Problem → Content → ℕ → Node → Bool

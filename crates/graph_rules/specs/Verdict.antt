@@ -14,7 +14,7 @@ use Rattle.problem.specs.Problems.{depends_at, conflicts_at, requirements_at, re
 use Rattle.graph_rules.specs.Built.{keeps_buildable, keeps_version, keeps_variant, keeps_compiler, keeps_machine, keeps_extra_edge}
 use Rattle.graph_rules.specs.Directives.{keeps_root, keeps_edge, keeps_constraint, keeps_conflict, keeps_requirement}
 use Rattle.graph_rules.specs.Kept.{keeps_kept}
-use Rattle.graph_rules.specs.Whole.{keeps_provider, keeps_used, keeps_no_cycle, keeps_reachable}
+use Rattle.graph_rules.specs.Whole.{keeps_provider, keeps_used, keeps_together, keeps_no_cycle, keeps_reachable}
 use Rattle.graph_rules.specs.Valid.{all_rules}
 use Rattle.graph_rules.specs.declared.rule.Rule.{Rule}
 use Rattle.graph_rules.specs.declared.rule.Rule.TheVariants as rules
@@ -111,7 +111,8 @@ breaks_of asked rules.Required problem graph =
     broken_settings (required_at problem) (keeps_asked_setting asked (keeps_requirement problem graph)) graph
 breaks_of asked rules.Kept problem graph = broken_nodes (keeps_kept problem graph) graph
 breaks_of asked rules.Provider problem graph = broken_providers (keeps_provider problem graph) graph
-breaks_of asked rules.UnusedProvider problem graph = broken_providers (keeps_used problem graph) graph
+breaks_of asked rules.UnusedProvider problem graph = broken_providers (keeps_used graph) graph
+breaks_of asked rules.Together problem graph = broken_providers (keeps_together problem graph) graph
 breaks_of asked rules.Cycle problem graph = broken_nodes (keeps_no_cycle graph) graph
 breaks_of asked rules.Unreachable problem graph = broken_nodes (keeps_reachable problem graph) graph
 

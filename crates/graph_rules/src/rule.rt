@@ -20,6 +20,7 @@ pub enum Rule {
     Kept,
     Provider,
     UnusedProvider,
+    Together,
     Cycle,
     Unreachable,
 }
@@ -31,8 +32,8 @@ pub enum Verdict {
     Valid,
     /// The first broken rule, there the least node by bytes, and there the least number of a
     /// directive. The number is 0 for a rule without directives, the root's place for `Rule::Root`,
-    /// and the requirement's place in the settings for `Rule::Required`. For `Rule::Provider` and
-    /// `Rule::UnusedProvider` the node is the virtual.
+    /// and the requirement's place in the settings for `Rule::Required`. For `Rule::Provider`,
+    /// `Rule::UnusedProvider` and `Rule::Together` the node is the virtual.
     Broken {
         rule: Rule,
         node: Word,

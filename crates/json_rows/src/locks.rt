@@ -32,7 +32,7 @@ pub(crate) fn record_answer(alloc: Global, text: &str) -> Result<String, AllocEr
 
 fn record_in(alloc: Global, text: &str) -> Result<Record, JsonFault> {
     match read_json(alloc, text.as_bytes())? {
-        Some(value) => RecordForm.read(alloc, &value),
+        Some(value) => RecordForm { may_name: true }.read(alloc, &value),
         None => Err(JsonFault::OutOfMemory),
     }
 }
@@ -71,7 +71,7 @@ fn database_in(alloc: Global, text: &str) -> Result<Database, DbFault> {
 
 fn records_in(alloc: Global, text: &str) -> Result<List<Record>, JsonFault> {
     match read_json(alloc, text.as_bytes())? {
-        Some(value) => ListOf(RecordForm).read(alloc, &value),
+        Some(value) => ListOf(RecordForm { may_name: true }).read(alloc, &value),
         None => Err(JsonFault::OutOfMemory),
     }
 }

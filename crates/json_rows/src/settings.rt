@@ -63,6 +63,9 @@ fn settings_text(alloc: Global, settings: &Settings) -> Result<String, AllocErro
         push_named(&mut out, " provider ", name)?;
         push_words(&mut out, packages)?;
     }
+    if settings.provided_together {
+        out.push_str(" together")?;
+    }
     for package in settings.packages.as_slice() {
         push_package(alloc, &mut out, package)?;
     }

@@ -71,9 +71,10 @@ pub(crate) fn database_text(alloc: Global, database: &Database) -> Result<String
     Ok(out)
 }
 
-/// A lock: its nodes with their edges, its providers, roots and hashes.
+/// A lock: its version, its nodes with their edges, its providers, roots and hashes.
 pub(crate) fn lock_text(alloc: Global, lock: &Lock) -> Result<String, AllocError> {
-    let mut out = String::from_str(alloc, "lock")?;
+    let version = lock.version;
+    let mut out = format!(in alloc; "lock {version}")?;
     for node in lock.graph.nodes() {
         push_node(alloc, &mut out, node)?;
         push_edges(&mut out, &lock.graph, node)?;
@@ -148,7 +149,8 @@ fn push_edges(out: &mut String, graph: &Graph, node: &Node) -> Shown {
 fn push_edge(out: &mut String, edge: &Edge) -> Shown {
     push(out, " to ", edge.child.as_str())?;
     out.push_str(":")?;
-    push_kinds(out, &edge.kinds)
+    push_kinds(out, &edge.kinds)?;
+    push_values(out, edge.virtuals.values())
 }
 
 fn push_kinds(out: &mut String, kinds: &Kinds) -> Shown {

@@ -1,7 +1,7 @@
 // What is asked of a graph, answered as text.
 
 use cost_vector::vector;
-use graph_core::Graph;
+use graph_core::{Edge, Graph};
 use graph_judge::{judge, judge_for};
 use graph_rules::Verdict;
 use problem::Problem;
@@ -48,6 +48,27 @@ pub fn vector_text(alloc: Global, problem: &Problem, graph: &Graph) -> Result<St
             let part = format!(in alloc; " {}:{number}", i + 1)?;
             text.push_str(part.as_str())?;
         }
+    }
+    Ok(text)
+}
+
+fn add_names(alloc: Global, text: &mut String, edge: &Edge) -> Result<(), AllocError> {
+    let ends = format!(in alloc; " {}-{}:", edge.parent, edge.child)?;
+    text.push_str(ends.as_str())?;
+    for (i, name) in edge.virtuals.values().iter().enumerate() {
+        if i > 0 {
+            text.push_str(",")?;
+        }
+        text.push_str(name.as_str())?;
+    }
+    Ok(())
+}
+
+/// What each edge names.
+pub fn names_text(alloc: Global, graph: &Graph) -> Result<String, AllocError> {
+    let mut text = String::from_str(alloc, "N")?;
+    for edge in graph.edges() {
+        add_names(alloc, &mut text, edge)?;
     }
     Ok(text)
 }

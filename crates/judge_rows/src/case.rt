@@ -1,10 +1,11 @@
 // What the lines gave so far, and what one line more does.
 
-use crate::ask::{judge_text, judged_text, vector_text};
+use crate::ask::{judge_text, judged_text, names_text, vector_text};
 use crate::draft::Draft;
 use crate::made::node_of;
-use crate::read::kinds_of;
+use crate::read::{kinds_of, values_of};
 use graph_core::{Edge, Graph};
+use graph_judge::name_virtuals;
 use plain_data::Word;
 use problem::Problem;
 use reuse_db::Record;
@@ -97,11 +98,13 @@ impl Case {
         parent: &str,
         child: &str,
         letters: &str,
+        texts: &str,
     ) -> Result<bool, AllocError> {
         self.graph.add_edge(Edge {
             parent: Word::new(alloc, parent)?,
             child: Word::new(alloc, child)?,
             kinds: kinds_of(letters),
+            virtuals: values_of(alloc, texts)?,
         })
     }
 
@@ -115,6 +118,16 @@ impl Case {
             .set_provider(Word::new(alloc, name)?, Word::new(alloc, package)?)
     }
 
+    // The graph as one of the first version of a lock file is read.
+    fn name_edges(&mut self, alloc: Global) -> Result<bool, AllocError> {
+        let Some(problem) = &self.problem else {
+            return Ok(false);
+        };
+        let named = name_virtuals(alloc, problem, &self.graph)?;
+        drop(std::mem::replace(&mut self.graph, named));
+        Ok(true)
+    }
+
     // Lines that ask.
     fn ask(&self, alloc: Global, words: &[&str]) -> Result<Option<String>, AllocError> {
         let Some(problem) = &self.problem else {
@@ -122,6 +135,7 @@ impl Case {
         };
         match words {
             [what] if *what == "judge" => Ok(Some(judge_text(alloc, problem, &self.graph)?)),
+            [what] if *what == "names" => Ok(Some(names_text(alloc, &self.graph)?)),
             [what] if *what == "vector" => Ok(Some(vector_text(alloc, problem, &self.graph)?)),
             [what, how, ids @ ..] if *what == "judge" && *how == "for" => {
                 Ok(Some(judged_text(alloc, problem, &self.graph, ids)?))
@@ -156,7 +170,15 @@ impl Case {
                 answered(alloc, taken)
             }
             [what, parent, child, letters] if *what == "edge" => {
-                let taken = self.add_edge(alloc, parent, child, letters)?;
+                let taken = self.add_edge(alloc, parent, child, letters, "")?;
+                answered(alloc, taken)
+            }
+            [what, parent, child, letters, texts] if *what == "edge" => {
+                let taken = self.add_edge(alloc, parent, child, letters, texts)?;
+                answered(alloc, taken)
+            }
+            [what] if *what == "name" => {
+                let taken = self.name_edges(alloc)?;
                 answered(alloc, taken)
             }
             [what, name, package] if *what == "provider" => {

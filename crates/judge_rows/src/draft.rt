@@ -7,16 +7,15 @@ ghost use Rattle.virtuals.specs.Virtuals.{AreInOrder};
 use crate::made::{children_of, record_of, set_hash};
 use crate::parts::{are_in_order, are_named};
 use crate::read::recipe_text;
-use graph_core::{Kinds, Node};
+use graph_core::Node;
 use plain_data::{List, Word};
 use problem::{Problem, ProblemFault, assemble};
 use recipe_data::Recipe;
 use recipe_reader::{RecipeFault, RecipeFile, read_recipes};
-use reuse_db::{Database, DbFault, Record};
+use reuse_db::{Database, DbFault, Dependency, Record};
 use settings_reader::{SettingsFault, read_settings};
 use site_settings::Settings;
 use spec_grammar::{Spec, SpecFault, read_specs};
-use spec_hash::Hash;
 use std::alloc::{AllocError, Global};
 use std::thread::Threads;
 
@@ -116,11 +115,7 @@ impl Draft {
     }
 
     /// What a record depends on, by the names of earlier ones.
-    pub fn children(
-        &self,
-        alloc: Global,
-        words: &[&str],
-    ) -> Result<List<(Hash, Kinds)>, AllocError> {
+    pub fn children(&self, alloc: Global, words: &[&str]) -> Result<List<Dependency>, AllocError> {
         children_of(alloc, self.records.as_slice(), words)
     }
 
@@ -129,7 +124,7 @@ impl Draft {
         &mut self,
         alloc: Global,
         node: Node,
-        dependencies: List<(Hash, Kinds)>,
+        dependencies: List<Dependency>,
     ) -> Result<(), AllocError> {
         let mut entry = record_of(node, dependencies);
         let hashed = set_hash(alloc, &mut entry);

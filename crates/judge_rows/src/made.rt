@@ -1,9 +1,9 @@
 // Nodes with their items, and records.
 
 use crate::read::{compiler_of, kinds_of, plain_node, values_of, version_of};
-use graph_core::{Kinds, Node, Origin};
+use graph_core::{Node, Origin};
 use plain_data::{List, Word};
-use reuse_db::{Record, canonical};
+use reuse_db::{Dependency, Record, canonical};
 use spec_hash::{Hash, hash_text};
 use std::alloc::{AllocError, Global};
 
@@ -90,32 +90,39 @@ fn hash_named(records: &[Record], name: &str) -> Option<Hash> {
 }
 
 fn add_child(
-    children: &mut List<(Hash, Kinds)>,
+    alloc: Global,
+    children: &mut List<Dependency>,
     records: &[Record],
     word: &str,
 ) -> Result<(), AllocError> {
-    let (name, letters) = word.split_once(':').unwrap_or((word, "l"));
+    let (name, rest) = word.split_once(':').unwrap_or((word, "l"));
+    let (letters, texts) = rest.split_once(':').unwrap_or((rest, ""));
     if let Some(hash) = hash_named(records, name) {
-        children.push((hash, kinds_of(letters)))?;
+        let virtuals = values_of(alloc, texts)?;
+        children.push(Dependency {
+            hash,
+            kinds: kinds_of(letters),
+            virtuals,
+        })?;
     }
     Ok(())
 }
 
-/// What a record depends on: `NAME:KINDS` of earlier records.
+/// What a record depends on: `NAME:KINDS` or `NAME:KINDS:VIRTUAL,VIRTUAL` of earlier records.
 pub fn children_of(
     alloc: Global,
     records: &[Record],
     words: &[&str],
-) -> Result<List<(Hash, Kinds)>, AllocError> {
+) -> Result<List<Dependency>, AllocError> {
     let mut children = List::new(alloc);
     for word in words {
-        add_child(&mut children, records, word)?;
+        add_child(alloc, &mut children, records, word)?;
     }
     Ok(children)
 }
 
 /// The record of a node, whose hash is not computed yet.
-pub fn record_of(node: Node, dependencies: List<(Hash, Kinds)>) -> Record {
+pub fn record_of(node: Node, dependencies: List<Dependency>) -> Record {
     Record {
         hash: hash_text(&[]),
         name: node.name,

@@ -2,13 +2,15 @@
 //! them.
 //!
 //! Lines that make a problem: `recipe NAME LINE; LINE`, `settings JSON`,
-//! `record NAME VERSION CHILD:KINDS..`, `roots SPEC SPEC..`, and then `problem`, which puts them
-//! together and begins with the empty graph.
-//! Lines that make a graph: `node NAME VERSION ITEM..`, `edge PARENT CHILD KINDS`,
-//! `provider VIRTUAL PACKAGE`, `same`, which keeps the problem and begins again with the empty
+//! `record NAME VERSION CHILD:KINDS..` with children `CHILD:KINDS:VIRTUAL,VIRTUAL` too,
+//! `roots SPEC SPEC..`, and then `problem`, which puts them together and begins with the empty
 //! graph.
-//! Questions: `judge`, `judge for NUMBER..`, `vector`. A line that is `#` and a space is repeated
-//! in the output; one that cannot be taken is answered by `no`.
+//! Lines that make a graph: `node NAME VERSION ITEM..`, `edge PARENT CHILD KINDS` and
+//! `edge PARENT CHILD KINDS VIRTUAL,VIRTUAL`, `provider VIRTUAL PACKAGE`, `name`, which names the
+//! virtuals on the edges as where a lock file of the first version is read, `same`, which keeps
+//! the problem and begins again with the empty graph.
+//! Questions: `judge`, `judge for NUMBER..`, `vector`, and `names` for what edges name. A line that
+//! is `#` and a space is repeated in the output; one that cannot be taken is answered by `no`.
 //! It stands on `graph_judge` and `cost_vector`, and on readers. Nothing stands on it.
 #![tactic(auto)]
 

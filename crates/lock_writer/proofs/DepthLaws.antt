@@ -9,10 +9,10 @@ use Rattle.serde_json.specs.View.{items_of}
 use Rattle.spec_grammar.specs.declared.part.Spec.{Spec}
 use Rattle.graph_core.specs.Graphs.{Text, Content}
 use Rattle.graph_core.specs.declared.node.Compiler.{Compiler}
-use Rattle.graph_core.specs.declared.node.Kinds.{Kinds}
 use Rattle.graph_core.specs.declared.node.Origin.{Origin}
 use Rattle.graph_core.specs.declared.node.Origin.TheVariants.{Built, External, Installed}
-use Rattle.reuse_db.specs.Canonical.{texts_data, compiler_data, external_data, variant_members, kind_texts, dependency_data, dependency_members, values_of}
+use Rattle.reuse_db.specs.Canonical.{texts_data, compiler_data, external_data, variant_members, kind_texts, virtual_members, dependency_data, dependency_members, values_of}
+use Rattle.reuse_db.specs.declared.record.Dependency.{Dependency}
 use Rattle.reuse_db.specs.declared.record.Record.{Record}
 use Rattle.lock_writer.specs.Hashes.{node_record}
 use Rattle.lock_writer.specs.Texts.{entry_data, node_data, data_of_node, provider_members, root_data, lock_data}
@@ -79,13 +79,17 @@ entry_within Built = some 3
 entry_within (External entry) = some 3
 entry_within (Installed hash) = some 3
 
-dependency_within : (d : Text × Kinds) → depth (dependency_data d) ≤ 2
-dependency_within d = deeper _ 1 (both 0 _ 1 (some 1) (both _ 0 1 (texts_within (kind_texts d.1)) (some 1)))
+virtuals_within : (names : List Text) → members_depth (virtual_members names) ≤ 1
+virtuals_within [] = some 1
+virtuals_within (name ∷ names) = both _ 0 1 (texts_within (name ∷ names)) (some 1)
 
-dependencies_within : (dependencies : List (Text × Kinds)) → suc (items_depth (values_of (dependency_members dependencies))) ≤ 3
+dependency_within : (d : Dependency) → depth (dependency_data d) ≤ 2
+dependency_within d = deeper _ 1 (both 0 _ 1 (some 1) (both _ _ 1 (texts_within (kind_texts d.kinds)) (virtuals_within d.virtuals)))
+
+dependencies_within : (dependencies : List Dependency) → suc (items_depth (values_of (dependency_members dependencies))) ≤ 3
 dependencies_within dependencies =
     deeper _ 2 (values_within 2 (dependency_members dependencies)
-    (fold_within (λ (d : Text × Kinds). d.0) dependency_data 2 dependencies no_members dependency_within (some 2)))
+    (fold_within (λ (d : Dependency). d.hash) dependency_data 2 dependencies no_members dependency_within (some 2)))
 
 variants_within : (variants : List (Text × List Text)) → suc (members_depth (variant_members variants)) ≤ 3
 variants_within variants =

@@ -15,10 +15,10 @@ use Rattle.keyed_lists.proofs.LookupLaws.{found_iff}
 use Rattle.graph_core.specs.Graphs.{Text, Content, IsGraph, HasNode, name_of, node_of, edges_from}
 use Rattle.graph_core.specs.Paths.{JoinedIn}
 use Rattle.graph_core.specs.declared.node.Edge.{Edge}
-use Rattle.graph_core.specs.declared.node.Kinds.{Kinds}
 use Rattle.graph_core.specs.declared.node.Node.{Node}
 use Rattle.graph_core.proofs.PathLaws.{names_once}
 use Rattle.reuse_db.specs.Canonical.{canonical, right_hash}
+use Rattle.reuse_db.specs.declared.record.Dependency.{Dependency}
 use Rattle.lock_writer.specs.Hashes.{hash_over, node_hash, record_of_node}
 use Rattle.lock_writer.specs.Known.{names_of, all_hashes, AreChildren, IsHashAt, is_done, AreHashes, waits, DoneBefore, DoneWithin, Keeps}
 use Rattle.lock_writer.proofs.HashLaws.{child_there, child_waits, hash_from_children, waits_some, waits_below}
@@ -41,7 +41,7 @@ zip_at R (x ∷ xs) (y ∷ ys) zero d e all lt = all.0
 zip_at R (x ∷ xs) (y ∷ ys) (suc i) d e all lt = zip_at R xs ys i d e all.1 (omega (arith, lt))
 
 -- the hash that a record has is no part of its text
-pub hash_free : (node : Node) (a b : Text) (dependencies : List (Text × Kinds))
+pub hash_free : (node : Node) (a b : Text) (dependencies : List Dependency)
     → right_hash (record_of_node node a dependencies) ≡ right_hash (record_of_node node b dependencies)
 unfolding canonical
 hash_free node a b dependencies = refl

@@ -4,20 +4,20 @@ use Prim.Native.Nat.{zero, suc}
 use Rattle.std.specs.Option.{unwrap_or}
 use Rattle.graph_core.specs.Graphs.{Text, Content, node_of, edges_from}
 use Rattle.graph_core.specs.declared.node.Edge.{Edge}
-use Rattle.graph_core.specs.declared.node.Kinds.{Kinds}
 use Rattle.graph_core.specs.declared.node.Node.{Node}
 use Rattle.graph_core.specs.declared.node.Origin.{Origin}
 use Rattle.graph_core.specs.declared.node.Origin.TheVariants.{Built, External, Installed}
 use Rattle.reuse_db.specs.Canonical.{right_hash}
 use Rattle.reuse_db.specs.Databases.{record_of}
+use Rattle.reuse_db.specs.declared.record.Dependency.{Dependency}
 use Rattle.reuse_db.specs.declared.record.Record.{Record}
 
--- the child of an edge, by its hash
-abbrev pub child_of : (Text → Text) → Edge → Text × Kinds
-child_of hash_of edge = (hash_of edge.child, edge.kinds)
+-- the child of an edge, by its hash, with what it provides
+abbrev pub child_of : (Text → Text) → Edge → Dependency
+child_of hash_of edge = record { hash = hash_of edge.child; kinds = edge.kinds; virtuals = edge.virtuals }
 
 -- the record of a node that is built or external: its prefix is that of the node
-abbrev pub record_of_node : Node → Text → List (Text × Kinds) → Record
+abbrev pub record_of_node : Node → Text → List Dependency → Record
 record_of_node node hash dependencies = record {
   hash = hash;
   name = node.name;

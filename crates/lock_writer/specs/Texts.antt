@@ -72,7 +72,7 @@ lock_data g records roots = object
     (member (codes "nodes") (array (items_of (map (data_of_node g records) g.nodes)))
     (member (codes "providers") (object (provider_members g.providers))
     (member (codes "roots") (array (items_of (map (root_data g) roots)))
-    (member (codes "version") (number (unsigned 1)) no_members))))
+    (member (codes "version") (number (unsigned 2)) no_members))))
 
 abbrev pub lock_text : Content → List Record → List Spec → Text
 lock_text g records roots = compact_text (lock_data g records roots) ++ 10 ∷ []

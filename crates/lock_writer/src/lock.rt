@@ -57,7 +57,7 @@ fn lock_value(
     let nodes = nodes_value(alloc, graph, database, hashes.as_slice())?;
     let providers = providers_value(alloc, graph.providers())?;
     let roots = roots_value(alloc, graph, roots, hashes.as_slice())?;
-    json!(in alloc; {"nodes": nodes, "providers": providers, "roots": roots, "version": 1u64})
+    json!(in alloc; {"nodes": nodes, "providers": providers, "roots": roots, "version": 2u64})
 }
 
 // ---- nodes

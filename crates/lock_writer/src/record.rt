@@ -5,9 +5,9 @@ ghost use Rattle.reuse_db.specs.Canonical.{right_hash};
 ghost use Rattle.lock_writer.specs.Hashes.{child_of, node_hash, record_of_node};
 ghost use Rattle.lock_writer.specs.Known.{IsHashAt};
 
-use graph_core::{Edge, Graph, Kinds, Node, known_place};
+use graph_core::{Edge, Graph, Node, known_place};
 use plain_data::{Duplicate, List};
-use reuse_db::{Record, canonical};
+use reuse_db::{Dependency, Record, canonical};
 use spec_hash::{Hash, hash_text};
 use std::alloc::{AllocError, Global};
 
@@ -17,7 +17,7 @@ pub(crate) fn dependencies_of(
     graph: &Graph,
     edges: &[Edge],
     hashes: &[Hash],
-) -> Result<List<(Hash, Kinds)>, AllocError>
+) -> Result<List<Dependency>, AllocError>
     requires children { All (λ edge. HasNode graph.now edge.child) edges.now }
     requires each { length hashes.now ≡ length graph.now.nodes }
     requires hashes { All (λ edge. IsHashAt graph.now hashes.now edge.child) edges.now }
@@ -26,7 +26,11 @@ pub(crate) fn dependencies_of(
     let mut list = List::new(alloc);
     for edge in edges {
         let place = known_place(graph, edge.child.as_str());
-        list.push((hashes[place], edge.kinds))?;
+        list.push(Dependency {
+            hash: hashes[place],
+            kinds: edge.kinds,
+            virtuals: edge.virtuals.duplicate(alloc)?,
+        })?;
     }
     Ok(list)
 }
@@ -36,7 +40,7 @@ pub(crate) fn record_of_node(
     alloc: Global,
     node: &Node,
     hash: Hash,
-    dependencies: List<(Hash, Kinds)>,
+    dependencies: List<Dependency>,
 ) -> Result<Record, AllocError>
     ensures { IfOk result (λ entry. entry ≡ record_of_node node.now hash dependencies) }
 {
@@ -58,7 +62,7 @@ pub(crate) fn record_of_node(
 pub(crate) fn own_hash(
     alloc: Global,
     node: &Node,
-    dependencies: List<(Hash, Kinds)>,
+    dependencies: List<Dependency>,
 ) -> Result<Hash, AllocError>
     ensures { IfOk result (λ hash. hash ≡ right_hash (record_of_node node.now [] dependencies)) }
 {

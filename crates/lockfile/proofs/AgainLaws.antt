@@ -56,6 +56,7 @@ module _ (g : Content) (records : List Record) (roots : List Spec) (graph : IsGr
           providers = λ name. refl;
         };
         roots = refl;
+        version = refl;
         hashes = record {
           order = rw (hash_names g g.nodes) graph.nodes;
           found = λ name. ap (λ hs. find_key byte_cmp (λ (h : Text × Text). h.0) hs name)

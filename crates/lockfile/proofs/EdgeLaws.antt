@@ -19,8 +19,8 @@ use Rattle.keyed_lists.proofs.KeyedLaws.{find_known}
 use Rattle.keyed_lists.proofs.RiseLaws.{all_from}
 use Rattle.graph_core.specs.Graphs.{Text, Content, HasNode, name_of, node_of}
 use Rattle.graph_core.specs.declared.node.Edge.{Edge}
-use Rattle.graph_core.specs.declared.node.Kinds.{Kinds}
 use Rattle.graph_core.proofs.GraphLaws.{has_decides}
+use Rattle.reuse_db.specs.declared.record.Dependency.{Dependency}
 use Rattle.lockfile.specs.Children.{all_edges, locked_children, locked_edge, edges_of, named_by}
 use Rattle.lockfile.specs.Files.{AreProvided, node_names}
 use Rattle.lockfile.specs.Locks.{graph_nodes}
@@ -66,19 +66,19 @@ names_more nodes i node old new lt is names updates q =
 
 -- ---- edges
 
-edge_ends : (nodes : List LockedNode) (parent : Text) (d : Text × Kinds) (child : Option Text) (e : Edge)
+edge_ends : (nodes : List LockedNode) (parent : Text) (d : Dependency) (child : Option Text) (e : Edge)
     → ((name : Text) → child ≡ Some name → Contains (node_names nodes) name) → locked_edge parent d child ≡ Some e
     → (parent ≡ e.parent) × Contains (node_names nodes) e.child
 edge_ends nodes parent d None e there is = absurd (none-some e is)
 edge_ends nodes parent d (Some name) e there is =
-    let same : record { parent = parent; child = name; kinds = d.1 } ≡ e = cc in
+    let same : record { parent = parent; child = name; kinds = d.kinds; virtuals = d.virtuals } ≡ e = cc in
     (ap (λ (x : Edge). x.parent) same, subst (Contains (node_names nodes)) (ap (λ (x : Edge). x.child) same) (there name refl))
 
 from_node : (nodes : List LockedNode) (node : LockedNode) (e : Edge) → Contains (edges_of nodes node) e → (node.described.name ≡ e.parent)
     × Contains (node_names nodes) e.child
 from_node nodes node e has =
-    let made = given_at (λ (d : Text × Kinds). locked_edge node.described.name d (named_by nodes d.0)) (locked_children node) e has in
-    edge_ends nodes node.described.name made.0 (named_by nodes made.0.0) e (named_there nodes made.0.0) made.2
+    let made = given_at (λ (d : Dependency). locked_edge node.described.name d (named_by nodes d.hash)) (locked_children node) e has in
+    edge_ends nodes node.described.name made.0 (named_by nodes made.0.hash) e (named_there nodes made.0.hash) made.2
 
 -- the ends of each edge are names of nodes
 pub ends_named : (nodes from : List LockedNode) (e : Edge) → Contains (all_edges nodes from) e → Contains (node_names from) e.parent

@@ -43,8 +43,8 @@ items_mapped read f h i (x ∷ xs) each =
 -- ---- nodes
 
 nodes_again : (g : Content) (records : List Record) → All (λ node. IsFormedNode node (node_record g records node)) g.nodes
-    → list_of node_at (array (items_of (map (data_of_node g records) g.nodes))) ≡ Ok (map (locked g records) g.nodes)
-nodes_again g records fit = items_mapped node_at (data_of_node g records) (locked g records) 0 g.nodes (λ node has.
+    → list_of (node_at true) (array (items_of (map (data_of_node g records) g.nodes))) ≡ Ok (map (locked g records) g.nodes)
+nodes_again g records fit = items_mapped (node_at true) (data_of_node g records) (locked g records) 0 g.nodes (λ node has.
     let is = All-contains (λ (n : Node). IsFormedNode n (node_record g records n)) g.nodes node fit has in
     node_again (node_record g records node) node.origin is.form is.own)
 

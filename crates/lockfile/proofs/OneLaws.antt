@@ -34,16 +34,15 @@ graph_one laws file a b p q =
     ∙ sym (q.edges (parent, child)))
     (λ name. ap (option_map (λ (provider : Text × Text). provider.1)) (p.providers name ∙ sym (q.providers name)))
 
-same_lock : (a b : Lock) → a.graph ≡ b.graph → a.roots ≡ b.roots → a.hashes ≡ b.hashes → a ≡ b
-same_lock a b graph roots hashes =
-    ap (λ (g : Content). let lock : Lock = record { graph = g; roots = a.roots; hashes = a.hashes } in lock) graph
-    ∙ ap (λ (r : List (Text × Text)). let lock : Lock = record { graph = b.graph; roots = r; hashes = a.hashes } in lock) roots
-    ∙ ap (λ (h : List (Text × Text)). let lock : Lock = record { graph = b.graph; roots = b.roots; hashes = h } in lock) hashes
+same_lock : (a b : Lock) → a.graph ≡ b.graph → a.roots ≡ b.roots → a.hashes ≡ b.hashes → a.version ≡ b.version → a ≡ b
+same_lock a b graph roots hashes version =
+    λ i. record { graph = graph i; roots = roots i; hashes = hashes i; version = version i }
 
 lock_of_one : AnswersOnce → (file : File) (a b : Lock) → IsLockOf file a → IsLockOf file b → a ≡ b
 lock_of_one laws file a b p q =
     same_lock a b (graph_one laws file a.graph b.graph p.graph q.graph) (p.roots ∙ sym q.roots)
     (laws.hashes a.hashes b.hashes p.hashes.order q.hashes.order (λ name. p.hashes.found name ∙ sym (q.hashes.found name)))
+    (p.version ∙ sym q.version)
 
 file_same : (d e : Data) (f g : File) → d ≡ e → file_at d ≡ Ok f → file_at e ≡ Ok g → f ≡ g
 file_same d e f g same p q =

@@ -14,52 +14,49 @@ use Rattle.variant_values.proofs.Keys.{lacks_all}
 use Rattle.variant_values.proofs.Texts.{ties_are_equal, with_text_in_order}
 use Rattle.serde_json.specs.Data.{Members, member, put}
 use Rattle.graph_core.specs.Graphs.{Text}
-use Rattle.graph_core.specs.declared.node.Kinds.{Kinds}
 use Rattle.reuse_db.specs.Canonical.{dependency_data, dependency_members}
+use Rattle.reuse_db.specs.declared.record.Dependency.{Dependency}
 use Rattle.lockfile.specs.Again.{by_hash, placed}
 use Rattle.lockfile.proofs.WrittenLaws.{members_by, written}
 
-abbrev Dependency : Type 0
-Dependency = Text × Kinds
-
 abbrev hash_in : Dependency → Text
-hash_in d = d.0
+hash_in d = d.hash
 
 abbrev listed : List Dependency → Members
 listed = members_by hash_in dependency_data
 
-put_listed : (d : Dependency) (es : List Dependency) → put d.0 (dependency_data d) (listed es) ≡ listed (placed d es)
+put_listed : (d : Dependency) (es : List Dependency) → put d.hash (dependency_data d) (listed es) ≡ listed (placed d es)
 put_listed d [] = refl
-put_listed d (e ∷ es) = put_listed-cases (byte_cmp d.0 e.0) refl (put_listed d es)
+put_listed d (e ∷ es) = put_listed-cases (byte_cmp d.hash e.hash) refl (put_listed d es)
   where
-    put_listed-cases : (r : Ordering) → byte_cmp d.0 e.0 ≡ r → put d.0 (dependency_data d) (listed es) ≡ listed (placed d es)
-        → match_ordering r (member d.0 (dependency_data d) (listed (e ∷ es))) (member e.0 (dependency_data d) (listed es))
-        (member e.0 (dependency_data e) (put d.0 (dependency_data d) (listed es)))
+    put_listed-cases : (r : Ordering) → byte_cmp d.hash e.hash ≡ r → put d.hash (dependency_data d) (listed es) ≡ listed (placed d es)
+        → match_ordering r (member d.hash (dependency_data d) (listed (e ∷ es))) (member e.hash (dependency_data d) (listed es))
+        (member e.hash (dependency_data e) (put d.hash (dependency_data d) (listed es)))
         ≡ listed (match_ordering r (d ∷ e ∷ es) (d ∷ es) (e ∷ placed d es))
     put_listed-cases Less is rest = refl
-    put_listed-cases Equal is rest = ap (λ key. member key (dependency_data d) (listed es)) (sym (ties_are_equal d.0 e.0 is))
-    put_listed-cases Greater is rest = ap (member e.0 (dependency_data e)) rest
+    put_listed-cases Equal is rest = ap (λ key. member key (dependency_data d) (listed es)) (sym (ties_are_equal d.hash e.hash is))
+    put_listed-cases Greater is rest = ap (member e.hash (dependency_data e)) rest
 
-folded : (es ds : List Dependency) → fold (λ ms d. put d.0 (dependency_data d) ms) (listed es) ds
+folded : (es ds : List Dependency) → fold (λ ms d. put d.hash (dependency_data d) ms) (listed es) ds
     ≡ listed (fold (λ sorted d. placed d sorted) es ds)
 folded es [] = refl
-folded es (d ∷ ds) = ap (λ ms. fold (λ ms d. put d.0 (dependency_data d) ms) ms ds) (put_listed d es) ∙ folded (placed d es) ds
+folded es (d ∷ ds) = ap (λ ms. fold (λ ms d. put d.hash (dependency_data d) ms) ms ds) (put_listed d es) ∙ folded (placed d es) ds
 
-keys_placed : (d : Dependency) (es : List Dependency) → map hash_in (placed d es) ≡ with_text (map hash_in es) d.0
+keys_placed : (d : Dependency) (es : List Dependency) → map hash_in (placed d es) ≡ with_text (map hash_in es) d.hash
 keys_placed d [] = refl
-keys_placed d (e ∷ es) = keys_placed-cases (byte_cmp d.0 e.0) refl (keys_placed d es)
+keys_placed d (e ∷ es) = keys_placed-cases (byte_cmp d.hash e.hash) refl (keys_placed d es)
   where
-    keys_placed-cases : (r : Ordering) → byte_cmp d.0 e.0 ≡ r → map hash_in (placed d es) ≡ with_text (map hash_in es) d.0
-        → map hash_in (match_ordering r (d ∷ e ∷ es) (d ∷ es) (e ∷ placed d es)) ≡ match_ordering r (d.0 ∷ e.0 ∷ map hash_in es)
-        (e.0 ∷ map hash_in es) (e.0 ∷ with_text (map hash_in es) d.0)
+    keys_placed-cases : (r : Ordering) → byte_cmp d.hash e.hash ≡ r → map hash_in (placed d es) ≡ with_text (map hash_in es) d.hash
+        → map hash_in (match_ordering r (d ∷ e ∷ es) (d ∷ es) (e ∷ placed d es)) ≡ match_ordering r (d.hash ∷ e.hash ∷ map hash_in es)
+        (e.hash ∷ map hash_in es) (e.hash ∷ with_text (map hash_in es) d.hash)
     keys_placed-cases Less is rest = refl
-    keys_placed-cases Equal is rest = ap (λ key. key ∷ map hash_in es) (ties_are_equal d.0 e.0 is)
-    keys_placed-cases Greater is rest = ap (λ keys. e.0 ∷ keys) rest
+    keys_placed-cases Equal is rest = ap (λ key. key ∷ map hash_in es) (ties_are_equal d.hash e.hash is)
+    keys_placed-cases Greater is rest = ap (λ keys. e.hash ∷ keys) rest
 
 order_from : (es ds : List Dependency) → IsInOrder byte_cmp hash_in es
     → IsInOrder byte_cmp hash_in (fold (λ sorted d. placed d sorted) es ds)
 order_from es [] o = o
-order_from es (d ∷ ds) o = order_from (placed d es) ds (rw (keys_placed d es) (with_text_in_order (map hash_in es) d.0 o))
+order_from es (d ∷ ds) o = order_from (placed d es) ds (rw (keys_placed d es) (with_text_in_order (map hash_in es) d.hash o))
 
 -- dependencies by their hashes are in order
 pub in_order : (ds : List Dependency) → IsInOrder byte_cmp hash_in (by_hash ds)
@@ -68,7 +65,7 @@ in_order ds = order_from [] ds (rises_none byte_cmp)
 -- each is one of those that were placed
 from_placed : (d : Dependency) (es : List Dependency) (q : Dependency) → Contains (placed d es) q → (d ≡ q) ⊎ Contains es q
 from_placed d [] q has = first_or_later d [] q has
-from_placed d (e ∷ es) q has = from_placed-cases (byte_cmp d.0 e.0) has (from_placed d es q)
+from_placed d (e ∷ es) q has = from_placed-cases (byte_cmp d.hash e.hash) has (from_placed d es q)
   where
     from_placed-cases : (r : Ordering) → Contains (match_ordering r (d ∷ e ∷ es) (d ∷ es) (e ∷ placed d es)) q
         → (Contains (placed d es) q → (d ≡ q) ⊎ Contains es q) → (d ≡ q) ⊎ Contains (e ∷ es) q
@@ -101,22 +98,22 @@ same_members ds = written hash_in dependency_data (by_hash ds) (in_order ds) ∙
 
 in_placed : (d : Dependency) (es : List Dependency) → Contains (placed d es) d
 in_placed d [] = has_first d []
-in_placed d (e ∷ es) = in_placed-cases (byte_cmp d.0 e.0) (in_placed d es)
+in_placed d (e ∷ es) = in_placed-cases (byte_cmp d.hash e.hash) (in_placed d es)
   where
     in_placed-cases : (r : Ordering) → Contains (placed d es) d → Contains (match_ordering r (d ∷ e ∷ es) (d ∷ es) (e ∷ placed d es)) d
     in_placed-cases Less rest = has_first d (e ∷ es)
     in_placed-cases Equal rest = has_first d es
     in_placed-cases Greater rest = has_later e (placed d es) d rest
 
-still_placed : (d : Dependency) (es : List Dependency) (q : Dependency) → (q.0 ≡ d.0 → q ≡ d) → Contains es q → Contains (placed d es) q
+still_placed : (d : Dependency) (es : List Dependency) (q : Dependency) → (q.hash ≡ d.hash → q ≡ d) → Contains es q → Contains (placed d es) q
 still_placed d [] q once has = absurd (lacks_all q has)
-still_placed d (e ∷ es) q once has = still_placed-cases (byte_cmp d.0 e.0) refl (λ later. still_placed d es q once later)
+still_placed d (e ∷ es) q once has = still_placed-cases (byte_cmp d.hash e.hash) refl (λ later. still_placed d es q once later)
   where
-    still_placed-cases : (r : Ordering) → byte_cmp d.0 e.0 ≡ r → (Contains es q → Contains (placed d es) q)
+    still_placed-cases : (r : Ordering) → byte_cmp d.hash e.hash ≡ r → (Contains es q → Contains (placed d es) q)
         → Contains (match_ordering r (d ∷ e ∷ es) (d ∷ es) (e ∷ placed d es)) q
     still_placed-cases Less is rest = has_later d (e ∷ es) q has
     still_placed-cases Equal is rest = ⊎_elim
-        (λ same. subst (Contains (d ∷ es)) (sym (once (ap hash_in (sym same) ∙ sym (ties_are_equal d.0 e.0 is)))) (has_first d es))
+        (λ same. subst (Contains (d ∷ es)) (sym (once (ap hash_in (sym same) ∙ sym (ties_are_equal d.hash e.hash is)))) (has_first d es))
         (λ later. has_later d es q later)
         (first_or_later e es q has)
     still_placed-cases Greater is rest = ⊎_elim
@@ -124,7 +121,7 @@ still_placed d (e ∷ es) q once has = still_placed-cases (byte_cmp d.0 e.0) ref
         (λ later. has_later e (placed d es) q (rest later))
         (first_or_later e es q has)
 
-in_folded : (es ds : List Dependency) (q : Dependency) → ((d : Dependency) → Contains ds d → q.0 ≡ d.0 → q ≡ d) → Contains es q
+in_folded : (es ds : List Dependency) (q : Dependency) → ((d : Dependency) → Contains ds d → q.hash ≡ d.hash → q ≡ d) → Contains es q
     ⊎ Contains ds q → Contains (fold (λ sorted d. placed d sorted) es ds) q
 in_folded es [] q once has = ⊎_elim (λ old. old) (λ none. absurd (lacks_all q none)) has
 in_folded es (d ∷ ds) q once has = in_folded (placed d es) ds q (λ e there. once e (has_later d ds e there)) (⊎_elim
@@ -133,7 +130,7 @@ in_folded es (d ∷ ds) q once has = in_folded (placed d es) ds q (λ e there. o
     has)
 
 -- the same dependencies, in another order
-pub same_dependencies : (ds : List Dependency) → ((a b : Dependency) → Contains ds a → Contains ds b → a.0 ≡ b.0 → a ≡ b) → (d : Dependency)
+pub same_dependencies : (ds : List Dependency) → ((a b : Dependency) → Contains ds a → Contains ds b → a.hash ≡ b.hash → a ≡ b) → (d : Dependency)
     → Contains ds d ↔ Contains (by_hash ds) d
 same_dependencies ds once d = (
   λ has. in_folded [] ds d (λ e there. once d e has there) (inr has),

@@ -11,12 +11,12 @@ use Rattle.spec_grammar.specs.Canonical.{word_text}
 use Rattle.spec_grammar.specs.declared.part.Spec.{Spec}
 use Rattle.graph_core.specs.Graphs.{Text, Content, HasNode, IsGraph, edges_from, name_of}
 use Rattle.graph_core.specs.declared.node.Edge.{Edge}
-use Rattle.graph_core.specs.declared.node.Kinds.{Kinds}
 use Rattle.graph_core.specs.declared.node.Node.{Node}
 use Rattle.graph_core.specs.declared.node.Origin.{Origin}
 use Rattle.graph_core.specs.declared.node.Origin.TheVariants.{Built, External, Installed}
 use Rattle.reuse_db.specs.Canonical.{right_hash}
 use Rattle.reuse_db.specs.Databases.{AreRecords}
+use Rattle.reuse_db.specs.declared.record.Dependency.{Dependency}
 use Rattle.reuse_db.specs.declared.record.Record.{Record}
 use Rattle.lock_writer.specs.Hashes.{child_of, node_hash, node_record}
 use Rattle.lock_writer.specs.Texts.{IsOfNode}
@@ -35,7 +35,7 @@ use Rattle.lockfile.proofs.WrittenLaws.{never_named_twice}
 use Rattle.lockfile.proofs.WrittenNodes.{from_node, is_written}
 
 -- the children by more dependencies are more
-more_children : (origin : Origin) (ds es : List (Text × Kinds)) → ((d : Text × Kinds) → Contains ds d → Contains es d) → (d : Text × Kinds)
+more_children : (origin : Origin) (ds es : List Dependency) → ((d : Dependency) → Contains ds d → Contains es d) → (d : Dependency)
     → Contains (children_by origin ds) d → Contains (children_by origin es) d
 more_children Built ds es more d has = more d has
 more_children (External entry) ds es more d has = more d has
@@ -87,7 +87,7 @@ module _ (g : Content) (records : List Record) (graph : IsGraph g) (right : AreR
   -- ---- children and edges
 
   -- the children that are read of a node are those of its edges
-  pub children_again : (node : Node) → Contains g.nodes node → (d : Text × Kinds) → Contains (children_in g node) d
+  pub children_again : (node : Node) → Contains g.nodes node → (d : Dependency) → Contains (children_in g node) d
       ↔ Contains (locked_children (locked g records node)) d
   children_again node has d =
       let is = is_written g records graph right fit node has in
@@ -102,18 +102,18 @@ module _ (g : Content) (records : List Record) (graph : IsGraph g) (right : AreR
   edge_again node has e there =
       let from = from_node g node.name e there in
       let child = All-contains (λ (x : Edge). HasNode g x.child) g.edges e graph.children from.0 in
-      rw (named e.child child) (ap (λ parent. Some (let x : Edge = record { parent = parent; child = e.child; kinds = e.kinds } in x))
+      rw (named e.child child) (ap (λ parent. Some (let x : Edge = record { parent = parent; child = e.child; kinds = e.kinds; virtuals = e.virtuals } in x))
       (name_written node has ∙ sym from.1))
 
   -- what is read of the child of an edge is an edge
-  edge_kept : (node : Node) → Contains g.nodes node → (e f : Edge) (d : Text × Kinds) → Contains (edges_from g node.name) e
-      → child_of (node_hash g) e ≡ d → locked_edge (locked g records node).described.name d (named_by nodes d.0) ≡ Some f
+  edge_kept : (node : Node) → Contains g.nodes node → (e f : Edge) (d : Dependency) → Contains (edges_from g node.name) e
+      → child_of (node_hash g) e ≡ d → locked_edge (locked g records node).described.name d (named_by nodes d.hash) ≡ Some f
       → Contains g.edges f
   edge_kept node has e f d there is made =
       let one = some_one (locked_edge (locked g records node).described.name (child_of (node_hash g) e)
       (named_by nodes (node_hash g e.child)))
       e f
-      (edge_again node has e there) (subst (λ x. locked_edge (locked g records node).described.name x (named_by nodes x.0) ≡ Some f)
+      (edge_again node has e there) (subst (λ x. locked_edge (locked g records node).described.name x (named_by nodes x.hash) ≡ Some f)
       (sym is) made) in
       subst (Contains g.edges) one (from_node g node.name e there).0
 
@@ -126,7 +126,7 @@ module _ (g : Content) (records : List Record) (graph : IsGraph g) (right : AreR
       let child = (children_again node from.1 (child_of (node_hash g) e)).0
       (has_image (child_of (node_hash g)) (edges_from g node.name) e here) in
       in_flat (edges_of nodes) nodes (locked g records node) e (has_image (locked g records) g.nodes node from.1)
-      (in_given (λ (d : Text × Kinds). locked_edge (locked g records node).described.name d (named_by nodes d.0))
+      (in_given (λ (d : Dependency). locked_edge (locked g records node).described.name d (named_by nodes d.hash))
       (locked_children (locked g records node)) (child_of (node_hash g) e) e child (edge_again node from.1 e here))
 
   -- each edge that is read is one of the graph
@@ -136,7 +136,7 @@ module _ (g : Content) (records : List Record) (graph : IsGraph g) (right : AreR
       let of = image_of (locked g records) g.nodes flat.0 flat.1 in
       let node = of.0 in
       let there = subst (λ n. Contains (edges_of nodes n) e) (sym of.2) flat.2 in
-      let given = given_at (λ (d : Text × Kinds). locked_edge (locked g records node).described.name d (named_by nodes d.0))
+      let given = given_at (λ (d : Dependency). locked_edge (locked g records node).described.name d (named_by nodes d.hash))
       (locked_children (locked g records node)) e there in
       let from = image_of (child_of (node_hash g)) (edges_from g node.name) given.0 ((children_again node of.1 given.0).1 given.1) in
       edge_kept node of.1 from.0 e given.0 from.1 from.2 given.2
@@ -144,14 +144,14 @@ module _ (g : Content) (records : List Record) (graph : IsGraph g) (right : AreR
   -- ---- no fault
 
   child_known : (node : LockedNode) → Contains nodes node → lost_child nodes node ≡ None
-  child_known node has = ap (λ o. option_map (λ (d : Text × Kinds). d.0) o)
-      (find_no (λ (d : Text × Kinds). is_none (named_by nodes d.0)) (locked_children node) (λ d there.
+  child_known node has = ap (λ o. option_map (λ (d : Dependency). d.hash) o)
+      (find_no (λ (d : Dependency). is_none (named_by nodes d.hash)) (locked_children node) (λ d there.
       let of = image_of (locked g records) g.nodes node has in
       let from = image_of (child_of (node_hash g)) (edges_from g of.0.name) d
       ((children_again of.0 of.1 d).1 (subst (λ n. Contains (locked_children n) d) (sym of.2) there)) in
       let edge = from_node g of.0.name from.0 from.1 in
       let child = named from.0.child (All-contains (λ (x : Edge). HasNode g x.child) g.edges from.0 graph.children edge.0) in
-      ap is_none (ap (λ (x : Text × Kinds). named_by nodes x.0) (sym from.2) ∙ child)))
+      ap is_none (ap (λ (x : Dependency). named_by nodes x.hash) (sym from.2) ∙ child)))
 
   hashes_right : wrongly_hashed nodes ≡ None
   hashes_right = find_no (λ (entry : Record). not (bytes_eq entry.hash (right_hash entry))) (records_of nodes) (λ entry has.

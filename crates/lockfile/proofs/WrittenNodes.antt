@@ -16,7 +16,6 @@ use Rattle.spec_hash.specs.Base32.{base32}
 use Rattle.spec_hash.proofs.Letters.{letters_of_base32}
 use Rattle.graph_core.specs.Graphs.{Text, Content, HasNode, IsGraph, edges_from, ends_of, name_of, pair_cmp}
 use Rattle.graph_core.specs.declared.node.Edge.{Edge}
-use Rattle.graph_core.specs.declared.node.Kinds.{Kinds}
 use Rattle.graph_core.specs.declared.node.Node.{Node}
 use Rattle.graph_core.specs.declared.node.Origin.{Origin}
 use Rattle.graph_core.specs.declared.node.Origin.TheVariants.{Built, External, Installed}
@@ -24,6 +23,7 @@ use Rattle.graph_core.proofs.PairLaws.{pair_exact, pair_total}
 use Rattle.record_reader.specs.Texts.{hash_meaning}
 use Rattle.reuse_db.specs.Canonical.{right_hash}
 use Rattle.reuse_db.specs.Databases.{AreRecords, differing, record_of}
+use Rattle.reuse_db.specs.declared.record.Dependency.{Dependency}
 use Rattle.reuse_db.specs.declared.record.Record.{Record}
 use Rattle.lock_writer.specs.Hashes.{child_of, hash_by, node_hash, node_record, own_record, record_by}
 use Rattle.lock_writer.specs.Texts.{IsOfNode}
@@ -31,7 +31,7 @@ use Rattle.lock_writer.proofs.HashLaws.{child_there, hash_from_children}
 use Rattle.lock_writer.proofs.KnownLaws.{hash_free}
 use Rattle.lockfile.specs.Children.{children_by}
 use Rattle.lockfile.specs.Locks.{graph_node}
-use Rattle.lockfile.specs.Again.{Has, HasKind, IsDependency, IsOwn}
+use Rattle.lockfile.specs.Again.{AreVirtuals, Has, HasKind, IsDependency, IsOwn}
 use Rattle.lockfile.specs.Formed.{IsFormed, IsFormedNode, locked_root}
 use Rattle.lockfile.specs.Writable.{AreDependencies, HasForms, IsAsInstalled, IsWritable, children_in}
 use Rattle.json_readers.proofs.Once.{some_one}
@@ -79,7 +79,7 @@ is_right (r ∷ records) hash entry none found =
 pub record IsWritten (g : Content) (node : Node) (origin : Origin) (entry : Record) : Type 0 where
   pub own : IsOwn origin entry.hash
   pub same : graph_node (record { described = entry; origin = node.origin }) ≡ node
-  pub edges : (child : Text × Kinds) → Contains (children_in g node) child ↔ Contains (children_by origin entry.dependencies) child
+  pub edges : (child : Dependency) → Contains (children_in g node) child ↔ Contains (children_by origin entry.dependencies) child
   pub form : AreDependencies entry.dependencies
   pub hash : entry.hash ≡ node_hash g node.name
   pub right : entry.hash ≡ right_hash entry
@@ -151,12 +151,13 @@ module _ (g : Content) (records : List Record) (graph : IsGraph g) (right : AreR
         subst IsDependency from.2 (record {
           hash = name_formed from.0.child (child_there g graph node.name from.0 from.1);
           kind = All-contains (λ (e : Edge). HasKind e.kinds) g.edges from.0 fit.kinds (from_node g node.name from.0 from.1).0;
+          virtuals = All-contains (λ (e : Edge). AreVirtuals e.virtuals) g.edges from.0 fit.named (from_node g node.name from.0 from.1).0;
         }));
     once = λ a b has_a has_b same.
         let x = image_of (child_of (node_hash g)) (edges_from g node.name) a has_a in
         let y = image_of (child_of (node_hash g)) (edges_from g node.name) b has_b in
-        sym x.2 ∙ ap (child_of (node_hash g)) (one_to node.name x.0 y.0 x.1 y.1 (ap (λ (d : Text × Kinds). d.0) x.2 ∙ same
-        ∙ sym (ap (λ (d : Text × Kinds). d.0) y.2))) ∙ y.2;
+        sym x.2 ∙ ap (child_of (node_hash g)) (one_to node.name x.0 y.0 x.1 y.1 (ap (λ (d : Dependency). d.hash) x.2 ∙ same
+        ∙ sym (ap (λ (d : Dependency). d.hash) y.2))) ∙ y.2;
   }
 
   -- ---- what is written

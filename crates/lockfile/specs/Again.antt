@@ -10,6 +10,7 @@ use Rattle.graph_core.specs.declared.node.Kinds.{Kinds}
 use Rattle.graph_core.specs.declared.node.Origin.{Origin}
 use Rattle.graph_core.specs.declared.node.Origin.TheVariants.{Built, External, Installed}
 use Rattle.record_reader.specs.Texts.{hash_meaning}
+use Rattle.reuse_db.specs.declared.record.Dependency.{Dependency}
 use Rattle.reuse_db.specs.declared.record.Record.{Record}
 
 -- the text has the form, and means itself
@@ -31,10 +32,16 @@ pub record IsVariant (variant : Text × List Text) : Type 0 where
 abbrev pub HasKind : Kinds → Type 0
 HasKind kinds = (kinds.build || kinds.link || kinds.run) ≡ true
 
--- a hash with at least one kind
-pub record IsDependency (dependency : Text × Kinds) : Type 0 where
-  pub hash : Has hash_meaning dependency.0
-  pub kind : HasKind dependency.1
+-- names, in byte order
+pub record AreVirtuals (virtuals : List Text) : Type 0 where
+  pub order : IsInByteOrder virtuals
+  pub names : All (Has name_meaning) virtuals
+
+-- a hash with at least one kind, and names of virtuals
+pub record IsDependency (dependency : Dependency) : Type 0 where
+  pub hash : Has hash_meaning dependency.hash
+  pub kind : HasKind dependency.kinds
+  pub virtuals : AreVirtuals dependency.virtuals
 
 -- a record of its form, whose variants are in order
 pub record IsRecord (entry : Record) : Type 0 where
@@ -50,11 +57,11 @@ pub record IsRecord (entry : Record) : Type 0 where
 
 -- ---- dependencies in byte order of their hashes
 
-abbrev pub placed : Text × Kinds → List (Text × Kinds) → List (Text × Kinds)
+abbrev pub placed : Dependency → List Dependency → List Dependency
 placed d [] = d ∷ []
-placed d (e ∷ es) = match_ordering (byte_cmp d.0 e.0) (d ∷ e ∷ es) (d ∷ es) (e ∷ placed d es)
+placed d (e ∷ es) = match_ordering (byte_cmp d.hash e.hash) (d ∷ e ∷ es) (d ∷ es) (e ∷ placed d es)
 
-abbrev pub by_hash : List (Text × Kinds) → List (Text × Kinds)
+abbrev pub by_hash : List Dependency → List Dependency
 by_hash dependencies = fold (λ sorted d. placed d sorted) [] dependencies
 
 abbrev pub sorted : Record → Record

@@ -40,7 +40,7 @@ wrongly_hashed nodes = differing (records_of nodes)
 
 -- the hash of the first child of a node that is no node
 abbrev pub lost_child : List LockedNode → LockedNode → Option Text
-lost_child nodes node = option_map (λ d. d.0) (find (λ d. is_none (named_by nodes d.0)) (locked_children node))
+lost_child nodes node = option_map (λ d. d.hash) (find (λ d. is_none (named_by nodes d.hash)) (locked_children node))
 
 abbrev pub behind_parent : Text → Option Text → Option (Text × Text) → Option (Text × Text)
 behind_parent parent None later = later

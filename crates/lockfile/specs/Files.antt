@@ -15,7 +15,7 @@ use Rattle.graph_core.specs.Graphs.{Text}
 use Rattle.graph_core.specs.declared.node.Origin.{Origin}
 use Rattle.graph_core.specs.declared.node.Origin.TheVariants.{Built, External, Installed}
 use Rattle.record_reader.specs.Texts.{hash_meaning}
-use Rattle.record_reader.specs.Files.{version_at}
+use Rattle.record_reader.specs.Files.{may_name, version_at}
 use Rattle.record_reader.specs.Records.{front_at, middle_at, back_at}
 use Rattle.lockfile.specs.declared.file.File.{File}
 use Rattle.lockfile.specs.declared.node.Body.{Body}
@@ -49,10 +49,10 @@ abbrev pub node_keys : List Text
 node_keys = codes "compiler" ∷ codes "dependencies" ∷ codes "entry" ∷ codes "external" ∷ codes "hash" ∷ codes "name" ∷ codes "origin"
     ∷ codes "os" ∷ codes "target" ∷ codes "variants" ∷ codes "version" ∷ []
 
--- its keys up to `entry`
-unfoldable pub head_at : Option Text → Members → Reading NodeHead
-head_at odd ms = do
-  front ← front_at odd ms
+-- its keys up to `entry`; in the format's second version dependencies may name virtuals
+unfoldable pub head_at : Bool → Option Text → Members → Reading NodeHead
+head_at may_name odd ms = do
+  front ← front_at may_name odd ms
   entry ← field (entry_at (is_external ms)) odd (codes "entry") ms
   Ok (record { front = front; entry = entry })
 
@@ -64,11 +64,11 @@ body_at odd ms = do
   Ok (record { middle = middle; origin = origin })
 
 -- a record with `entry` and `origin` among its keys
-unfoldable pub node_at : Data → Reading LockedNode
-node_at d = do
+unfoldable pub node_at : Bool → Data → Reading LockedNode
+node_at may_name d = do
   ms ← members_of d
   let odd = first_odd node_keys ms in do
-    head ← head_at odd ms
+    head ← head_at may_name odd ms
     body ← body_at odd ms
     described ← back_at head.front body.middle odd ms
     Ok (record { described = described; origin = origin_by head.entry body.origin body.middle.hash })
@@ -98,22 +98,22 @@ lock_file_keys = codes "nodes" ∷ codes "providers" ∷ codes "roots" ∷ codes
 abbrev pub providers_at : List LockedNode → Option Text → Members → Reading (List (Text × Text))
 providers_at nodes odd ms = field (map_of name_meaning (text_of (node_among (with_texts [] (node_names nodes))))) odd (codes "providers") ms
 
--- the roots, and the keys behind them
-unfoldable pub roots_at : Option Text → Members → Reading (List (Text × Text))
+-- the roots and the version, and no key behind them
+unfoldable pub roots_at : Option Text → Members → Reading (List (Text × Text) × ℕ)
 roots_at odd ms = do
   roots ← field (list_of root_at) odd (codes "roots") ms
   version ← field version_at odd (codes "version") ms
   _ ← none_odd odd
-  Ok roots
+  Ok (roots, version)
 
 unfoldable pub file_at : Data → Reading File
 file_at d = do
   ms ← members_of d
   let odd = first_odd lock_file_keys ms in do
-    nodes ← field (list_of node_at) odd (codes "nodes") ms
+    nodes ← field (list_of (node_at (may_name ms))) odd (codes "nodes") ms
     providers ← providers_at nodes odd ms
-    roots ← roots_at odd ms
-    Ok (record { nodes = nodes; providers = providers; roots = roots })
+    last ← roots_at odd ms
+    Ok (record { nodes = nodes; providers = providers; roots = last.0; version = last.1 })
 
 -- each package that provides is one of the nodes
 abbrev pub AreProvided : File → Type 0

@@ -19,7 +19,12 @@ abbrev pub locked_root : Content → Spec → Text × Text
 locked_root g root = (spec_text root, node_hash g (word_text root.top.name))
 
 abbrev pub locked_file : Content → List Record → List Spec → File
-locked_file g records roots = record { nodes = map (locked g records) g.nodes; providers = g.providers; roots = map (locked_root g) roots }
+locked_file g records roots = record {
+  nodes = map (locked g records) g.nodes;
+  providers = g.providers;
+  roots = map (locked_root g) roots;
+  version = 2;
+}
 
 -- the record of a node has its form, and its name and hash
 pub record IsFormedNode (node : Node) (entry : Record) : Type 0 where

@@ -54,6 +54,7 @@ pub record IsLockOf (file : File) (lock : Lock) : Type 0 where
   pub graph : IsGraphOf file lock.graph
   pub roots : lock.roots ≡ file.roots
   pub hashes : AreHashesOf file.nodes lock.hashes
+  pub version : lock.version ≡ file.version
 
 -- the bytes are the JSON text of a file without a fault, which says this
 abbrev pub IsLock : List ℕ → Lock → Type 0

@@ -121,8 +121,8 @@ fn lost_child(
 {
     let children = children_of(alloc, node)?;
     for child in children.as_slice() {
-        if is_lost(nodes, &child.0, names) {
-            return Ok(Some(child.0));
+        if is_lost(nodes, &child.hash, names) {
+            return Ok(Some(child.hash));
         }
     }
     Ok(None)

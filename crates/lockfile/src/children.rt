@@ -8,15 +8,12 @@ use crate::names::name_in;
 use crate::node::LockedNode;
 use graph_core::{Edge, Kinds, Origin};
 use plain_data::{Duplicate, List, Word};
-use spec_hash::Hash;
+use reuse_db::Dependency;
 use std::alloc::{AllocError, Global};
 use std::collections::BTreeMap;
 
 /// What a node has edges to: of its dependencies, an installed node those to link or run.
-pub(crate) fn children_of(
-    alloc: Global,
-    node: &LockedNode,
-) -> Result<List<(Hash, Kinds)>, AllocError>
+pub(crate) fn children_of(alloc: Global, node: &LockedNode) -> Result<List<Dependency>, AllocError>
     ensures { IfOk result (λ list. list ≡ locked_children node.now) }
 {
     let dependencies = node.described.dependencies.as_slice();
@@ -26,46 +23,57 @@ pub(crate) fn children_of(
     }
 }
 
-fn all(alloc: Global, dependencies: &[(Hash, Kinds)]) -> Result<List<(Hash, Kinds)>, AllocError>
+fn all(alloc: Global, dependencies: &[Dependency]) -> Result<List<Dependency>, AllocError>
     ensures { IfOk result (λ list. list ≡ dependencies.now) }
 {
     let mut list = List::new(alloc);
     for dependency in dependencies {
-        list.push(*dependency)?;
+        list.push(copy_of(alloc, dependency, dependency.kinds)?)?;
     }
     Ok(list)
 }
 
 /// The children that an installed node has edges to, without `build`.
-fn needed(alloc: Global, dependencies: &[(Hash, Kinds)]) -> Result<List<(Hash, Kinds)>, AllocError>
+fn needed(alloc: Global, dependencies: &[Dependency]) -> Result<List<Dependency>, AllocError>
     ensures { IfOk result (λ list. list
         ≡ map without_build (filter is_link_or_run dependencies.now)) }
 {
     let mut list = List::new(alloc);
     for dependency in dependencies {
         if is_needed(dependency) {
-            list.push(without_build(dependency))?;
+            list.push(without_build(alloc, dependency)?)?;
         }
     }
     Ok(list)
 }
 
-fn is_needed(dependency: &(Hash, Kinds)) -> bool
+fn is_needed(dependency: &Dependency) -> bool
     ensures { result ≡ is_link_or_run dependency.now }
 {
-    dependency.1.link || dependency.1.run
+    dependency.kinds.link || dependency.kinds.run
 }
 
 /// A dependency as an edge from an installed node.
-fn without_build(dependency: &(Hash, Kinds)) -> (Hash, Kinds)
-    ensures { result ≡ without_build dependency.now }
+fn without_build(alloc: Global, dependency: &Dependency) -> Result<Dependency, AllocError>
+    ensures { IfOk result (λ made. made ≡ without_build dependency.now) }
 {
     let kinds = Kinds {
         build: false,
-        link: dependency.1.link,
-        run: dependency.1.run,
+        link: dependency.kinds.link,
+        run: dependency.kinds.run,
     };
-    (dependency.0, kinds)
+    copy_of(alloc, dependency, kinds)
+}
+
+/// A dependency, for these kinds.
+fn copy_of(alloc: Global, dependency: &Dependency, kinds: Kinds) -> Result<Dependency, AllocError>
+    ensures { IfOk result (λ made. made ≡ record dependency.now { kinds = kinds }) }
+{
+    Ok(Dependency {
+        hash: dependency.hash,
+        kinds,
+        virtuals: dependency.virtuals.duplicate(alloc)?,
+    })
 }
 
 /// The edges from all nodes to their children.
@@ -97,7 +105,7 @@ fn push_edges(
 {
     let children = children_of(alloc, node)?;
     for child in children.as_slice() {
-        if let Some(name) = name_in(names, child.0.as_str()) {
+        if let Some(name) = name_in(names, child.hash.as_str()) {
             edges.push(edge_to(alloc, node, child, name)?)?;
         }
     }
@@ -107,7 +115,7 @@ fn push_edges(
 fn edge_to(
     alloc: Global,
     node: &LockedNode,
-    child: &(Hash, Kinds),
+    child: &Dependency,
     name: &Word,
 ) -> Result<Edge, AllocError>
     ensures { IfOk result (λ edge. Some edge ≡ locked_edge node.now.described.name child.now
@@ -116,6 +124,7 @@ fn edge_to(
     Ok(Edge {
         parent: node.described.name.duplicate(alloc)?,
         child: name.duplicate(alloc)?,
-        kinds: child.1,
+        kinds: child.kinds,
+        virtuals: child.virtuals.duplicate(alloc)?,
     })
 }

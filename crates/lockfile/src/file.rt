@@ -14,7 +14,7 @@ use json_readers::{
 };
 use json_texts::Name;
 use plain_data::{Duplicate, List, Word};
-use record_reader::{HashText, VersionOne};
+use record_reader::{FileVersion, HashText, may_name};
 use serde_json::{Map, Value};
 use spec_hash::Hash;
 use std::alloc::{AllocError, Global};
@@ -28,6 +28,8 @@ pub struct File {
     pub providers: List<(Word, Word)>,
     /// Each requested spec, and the hash of the node that it became.
     pub roots: List<(Word, Hash)>,
+    /// That of the format, 1 or 2.
+    pub version: u64,
 }
 
 /// An object with `nodes`, `providers`, `roots` and `version`.
@@ -41,13 +43,17 @@ impl Reader<File> for FileForm {
     fn read(&self, alloc: Global, value: &Value) -> Result<File, JsonFault> {
         let members = members_of(alloc, value)?;
         let odd = first_odd(members, &["nodes", "providers", "roots", "version"]);
-        let nodes = field(alloc, members, odd, "nodes", &ListOf(NodeForm))?;
+        let form = NodeForm {
+            may_name: may_name(members),
+        };
+        let nodes = field(alloc, members, odd, "nodes", &ListOf(form))?;
         let providers = read_providers(alloc, members, odd, &nodes)?;
-        let roots = read_roots(alloc, members, odd)?;
+        let (roots, version) = read_roots(alloc, members, odd)?;
         Ok(File {
             nodes,
             providers,
             roots,
+            version,
         })
     }
 }
@@ -75,14 +81,14 @@ fn read_roots(
     alloc: Global,
     members: &Map<String, Value>,
     odd: Option<&str>,
-) -> Result<List<(Word, Hash)>, JsonFault>
+) -> Result<(List<(Word, Hash)>, u64), JsonFault>
     ensures { Gives result (roots_at (option_map (λ k. k.now) odd.entry)
         (members_view members.now.entries)) }
 {
     let roots = field(alloc, members, odd, "roots", &ListOf(RootForm))?;
-    let _version = field(alloc, members, odd, "version", &VersionOne)?;
+    let version = field(alloc, members, odd, "version", &FileVersion)?;
     none_odd(alloc, odd)?;
-    Ok(roots)
+    Ok((roots, version))
 }
 
 fn names_in(alloc: Global, nodes: &[LockedNode]) -> Result<ValueSet, AllocError>

@@ -143,6 +143,7 @@ fn copy_of(alloc: Global, edge: &Edge) -> Result<Edge, AllocError>
         parent: edge.parent.duplicate(alloc)?,
         child: edge.child.duplicate(alloc)?,
         kinds: edge.kinds,
+        virtuals: edge.virtuals.duplicate(alloc)?,
     })
 }
 

@@ -25,6 +25,8 @@ pub struct Lock {
     pub roots: List<(Word, Hash)>,
     /// Each node's name with its hash, in byte order of names.
     pub hashes: List<(Word, Hash)>,
+    /// That of the format, 1 or 2; in the first no edge names virtuals.
+    pub version: u64,
 }
 
 /// Reads a lock file: JSON of the form that `write_lock` writes, with nodes in any order.
@@ -74,5 +76,6 @@ fn lock_of(alloc: Global, file: File) -> Result<Lock, LockFault>
         graph,
         roots: file.roots,
         hashes,
+        version: file.version,
     })
 }

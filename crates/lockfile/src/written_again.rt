@@ -1,5 +1,5 @@
 //! What is written is read again.
-ghost use Rattle.std.specs.Prelude.{◌≡◌, All, Ok, List, ℕ};
+ghost use Rattle.std.specs.Prelude.{◌≡◌, true, All, Ok, List, ℕ};
 ghost use Rattle.keyed_lists.specs.Keyed.{IsInOrder};
 ghost use Rattle.variant_values.specs.Texts.{byte_cmp};
 ghost use Rattle.serde_json.specs.Data.{array, object};
@@ -10,12 +10,12 @@ ghost use Rattle.json_texts.specs.Forms.{name_meaning};
 ghost use Rattle.spec_grammar.specs.declared.part.Spec.{Spec};
 ghost use Rattle.graph_core.specs.Graphs.{Text, Content, IsGraph, node_of, provider_of};
 ghost use Rattle.graph_core.specs.declared.node.Node.{Node};
-ghost use Rattle.graph_core.specs.declared.node.Kinds.{Kinds};
 ghost use Rattle.record_reader.specs.Records.{dependency_at, variant_values_at};
 ghost use Rattle.reuse_db.specs.Canonical.{dependency_data, dependency_members, texts_data};
 ghost use Rattle.reuse_db.specs.Canonical.{values_of, variant_members};
 ghost use Rattle.graph_core.specs.declared.node.Origin.{Origin};
 ghost use Rattle.reuse_db.specs.Canonical.{right_hash};
+ghost use Rattle.reuse_db.specs.declared.record.Dependency.{Dependency};
 ghost use Rattle.reuse_db.specs.declared.record.Record.{Record};
 ghost use Rattle.reuse_db.specs.Databases.{AreRecords};
 ghost use Rattle.lock_writer.specs.Texts.{CanBeWritten, lock_data, node_data};
@@ -32,9 +32,9 @@ pub fn written_laws()
     ensures variants { (variants : List (Text × List Text)) → All IsVariant variants
         → IsInOrder byte_cmp (λ v. v.0) variants
         → map_of name_meaning variant_values_at (object (variant_members variants)) ≡ Ok variants }
-    ensures dependencies { (dependencies : List (Text × Kinds)) → All IsDependency dependencies
-        → IsInOrder byte_cmp (λ d. d.0) dependencies
-        → set_of Some (Some (codes "hash")) dependency_at
+    ensures dependencies { (dependencies : List Dependency) → All IsDependency dependencies
+        → IsInOrder byte_cmp (λ d. d.hash) dependencies
+        → set_of Some (Some (codes "hash")) (dependency_at true)
         (array (values_of (dependency_members dependencies))) ≡ Ok dependencies }
 {}
 
@@ -42,7 +42,7 @@ pub fn written_laws()
 /// have no part in its hash.
 pub fn node_laws()
     ensures read { (entry : Record) (origin : Origin) → IsRecord entry → IsOwn origin entry.hash
-        → node_at (node_data entry origin)
+        → node_at true (node_data entry origin)
         ≡ Ok (record { described = sorted entry; origin = origin }) }
     ensures hash { (entry : Record) → right_hash (sorted entry) ≡ right_hash entry }
 {}

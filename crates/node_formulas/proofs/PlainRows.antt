@@ -8,6 +8,7 @@ use Rattle.condition_rules.specs.Words.{is_one_text}
 use Rattle.graph_core.specs.Graphs.{Text}
 use Rattle.graph_core.specs.declared.node.Node.{Node}
 use Rattle.graph_core.specs.declared.node.Kinds.{Kinds}
+use Rattle.reuse_db.specs.declared.record.Dependency.{Dependency}
 use Rattle.graph_core.specs.declared.node.Origin.{Origin}
 use Rattle.graph_core.specs.declared.node.Origin.TheVariants.{Built, External, Installed}
 use Rattle.problem.specs.Problems.{Problem, package_entry_of, externals_in, record_at}
@@ -15,12 +16,12 @@ use Rattle.problem.specs.Records.{kept_dependencies}
 use Rattle.graph_rules.specs.Kept.{external_node, installed_node}
 use Rattle.reuse_db.specs.declared.record.Record.{Record}
 use Rattle.literal_table.specs.Tables.{Table}
-use Rattle.graph_formulas.specs.Facts.{GraphWord, word_said, has_origin, has_os, has_target, has_edge, node_has}
+use Rattle.graph_formulas.specs.Facts.{GraphWord, word_said, provides_as, has_origin, has_os, has_target, has_edge, node_has}
 use Rattle.graph_formulas.specs.Lists.{◌and◌, each_keeps}
 use Rattle.graph_formulas.specs.Words.{rule_said}
 use Rattle.graph_formulas.specs.Built.{entry_rule, compiler_rule}
 use Rattle.graph_formulas.specs.Edges.{empty_kinds}
-use Rattle.graph_formulas.specs.Kept.{same_origin, installs, same_rule, kinds_rule, is_child_name, child_rule, recorded_rule, origin_rule, kept_rule}
+use Rattle.graph_formulas.specs.Kept.{joined_rule, same_origin, installs, same_rule, kinds_rule, is_child_name, child_rule, recorded_rule, origin_rule, kept_rule}
 use Rattle.word_formulas.specs.Builders.{no_paths, plain_said}
 use Rattle.node_formulas.proofs.Alike.{Alike, same-words, given-alike, written-alike, named-alike, each-alike, some-alike}
 
@@ -50,9 +51,10 @@ module _ (path : Text → Text → Statement) (t : Table) where
     kinds-alike name child kinds = (((refl, refl), (refl, given-alike f g kinds.link)), (refl, given-alike f g kinds.run))
 
     module _ (children : List Text) where
-      child-alike : (name : Text) (d : Text × Kinds) → Alike f g (child_rule problem children name d)
-      child-alike name d = named-alike f g (λ (child : Record). fact (node_has child.name (has_origin (installs d.0))) and kinds_rule name child.name d.1)
-          (λ child. (refl, kinds-alike name child.name d.1)) (record_at problem d.0)
+      child-alike : (name : Text) (d : Dependency) → Alike f g (child_rule problem children name d)
+      child-alike name d = named-alike f g (λ (child : Record). joined_rule name child.name d)
+          (λ child. ((refl, (kinds-alike name child.name d.kinds, refl)), each-alike f g (λ virtual. fact (provides_as virtual child.name)) (λ virtual. refl) d.virtuals))
+          (record_at problem d.hash)
 
       origin-alike : (name : Text) (origin : Origin) → Alike f g (origin_rule problem children name origin)
       origin-alike name Built = refl

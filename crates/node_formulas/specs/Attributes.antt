@@ -3,15 +3,15 @@ use Rattle.std.specs.Prelude.{List}
 use Rattle.std.specs.Str.{bytes_eq}
 use Rattle.clause_formulas.specs.Rules.{Proposition, fact, if_so}
 use Rattle.graph_core.specs.Graphs.{Text}
-use Rattle.graph_core.specs.declared.node.Kinds.{Kinds}
+use Rattle.reuse_db.specs.declared.record.Dependency.{Dependency}
 use Rattle.graph_rules.specs.Kept.{installed_node}
 use Rattle.problem.specs.Problems.{Problem, record_at}
 use Rattle.problem.specs.Records.{kept_dependencies}
 use Rattle.reuse_db.specs.declared.record.Record.{Record}
-use Rattle.graph_formulas.specs.Facts.{GraphWord, Variants, node_has, has_origin, has_version, has_variants, has_edge}
+use Rattle.graph_formulas.specs.Facts.{GraphWord, Variants, node_has, has_version, has_variants, has_edge}
 use Rattle.graph_formulas.specs.Lists.{◌and◌, settled_test, one_keeps, each_keeps}
 use Rattle.graph_formulas.specs.Edges.{empty_kinds}
-use Rattle.graph_formulas.specs.Kept.{installs, same_rule, kinds_rule, is_child_name}
+use Rattle.graph_formulas.specs.Kept.{joined_rule, same_rule, is_child_name}
 
 -- the node of the name has this name, version and variants
 abbrev pub software_rule : Text → Text → Text → Variants → Proposition GraphWord
@@ -20,12 +20,8 @@ software_rule name own version variants =
     and fact (node_has name (has_version (λ v. bytes_eq v version)))
     and fact (node_has name (has_variants variants))
 
--- the child is there as the installed node of a hash, with its edge
-abbrev pub joined_rule : Text → Text → (Text × Kinds) → Proposition GraphWord
-joined_rule name child d = fact (node_has child (has_origin (installs d.0))) and kinds_rule name child d.1
-
-abbrev pub dependency_rule : Problem → Text → (Text × Kinds) → Proposition GraphWord
-dependency_rule problem name d = one_keeps (record_at problem d.0) (λ child. joined_rule name child.name d)
+abbrev pub dependency_rule : Problem → Text → Dependency → Proposition GraphWord
+dependency_rule problem name d = one_keeps (record_at problem d.hash) (λ child. joined_rule name child.name d)
 
 -- an edge goes to a child of the record
 abbrev pub edge_rule : Problem → Text → Record → Text → Proposition GraphWord

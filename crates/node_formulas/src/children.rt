@@ -13,7 +13,7 @@ use graph_core::Kinds;
 use literal_table::{EdgeLits, LiteralTable};
 use plain_data::{Duplicate, Word};
 use problem::Problem;
-use reuse_db::Record;
+use reuse_db::{Dependency, Record};
 use spec_hash::Hash;
 use std::alloc::{AllocError, Global};
 
@@ -83,14 +83,14 @@ fn is_named(problem: &Problem, hash: &Hash, name: &str) -> bool
 }
 
 /// A dependency that is kept is a record of this name.
-fn some_named(problem: &Problem, dependencies: &[(Hash, Kinds)], name: &str) -> bool
-    ensures { result ≡ list_any (λ d. (d.1.link || d.1.run)
-        && is_some_and (record_at problem.now d.0) (λ child. bytes_eq child.name name.now))
+fn some_named(problem: &Problem, dependencies: &[Dependency], name: &str) -> bool
+    ensures { result ≡ list_any (λ d. (d.kinds.link || d.kinds.run)
+        && is_some_and (record_at problem.now d.hash) (λ child. bytes_eq child.name name.now))
         dependencies.now }
 {
     dependencies
         .iter()
-        .any(|d| is_kept(d.1) && is_named(problem, &d.0, name))
+        .any(|d| is_kept(d.kinds) && is_named(problem, &d.hash, name))
 }
 
 /// Whether the record has a child of this name.

@@ -8,7 +8,8 @@ ghost use Rattle.graph_formulas.specs.Lists.{each_keeps};
 ghost use Rattle.graph_formulas.specs.Edges.{empty_kinds};
 ghost use Rattle.graph_formulas.specs.Kept.{origin_rule};
 ghost use Rattle.node_formulas.specs.Rows.{only_if};
-ghost use Rattle.node_formulas.specs.Attributes.{joined_rule, dependency_rule, edge_rule, record_rule};
+ghost use Rattle.graph_formulas.specs.Kept.{joined_rule};
+ghost use Rattle.node_formulas.specs.Attributes.{dependency_rule, edge_rule, record_rule};
 ghost use Rattle.word_formulas.specs.Builders.{node_said, plain_said};
 
 use crate::attributes::same_record;
@@ -16,12 +17,13 @@ use crate::children::{is_child_name, is_kept, record_at};
 use crate::externals::listed_external;
 use crate::kinds::{kinds_formula, no_kinds, only_recorded};
 use crate::origins::installs;
+use crate::provided::{provided_formula, recorded_edge};
 use clause_formulas::Formula;
-use graph_core::{Kinds, Origin};
+use graph_core::Origin;
 use literal_table::LiteralTable;
 use plain_data::Word;
 use problem::Problem;
-use reuse_db::Record;
+use reuse_db::{Dependency, Record};
 use spec_hash::Hash;
 use std::alloc::{AllocError, Global};
 use word_formulas::{each, given, has_edge, origin_passes, prefix_passes};
@@ -34,15 +36,17 @@ fn installed_child(
     table: &LiteralTable,
     name: &str,
     child: &str,
-    dependency: &(Hash, Kinds),
+    dependency: &Dependency,
 ) -> Result<Formula, AllocError>
     ensures { IfOk result (λ formula. formula
         ≡ plain_said table.now (joined_rule name.now child.now dependency.now)) }
 {
-    let hash = &dependency.0;
+    let hash = &dependency.hash;
     let installed = origin_passes(alloc, table, child, |origin| installs(hash, origin))?;
-    let kinds = kinds_formula(alloc, table, name, child, dependency.1)?;
-    Formula::both(alloc, installed, kinds)
+    let recorded = recorded_edge(alloc, table, name, child, dependency)?;
+    let joined = Formula::both(alloc, installed, recorded)?;
+    let provided = provided_formula(alloc, table, child, dependency.virtuals.values())?;
+    Formula::both(alloc, joined, provided)
 }
 
 /// The record of the hash is there as a child, and there is such a record.
@@ -51,12 +55,12 @@ fn child_formula(
     problem: &Problem,
     table: &LiteralTable,
     name: &str,
-    dependency: &(Hash, Kinds),
+    dependency: &Dependency,
 ) -> Result<Formula, AllocError>
     ensures { IfOk result (λ formula. formula
         ≡ plain_said table.now (dependency_rule problem.now name.now dependency.now)) }
 {
-    match record_at(problem, &dependency.0) {
+    match record_at(problem, &dependency.hash) {
         Some(child) => installed_child(alloc, table, name, child.name.as_str(), dependency),
         None => Ok(given(alloc, false)),
     }
@@ -69,13 +73,13 @@ fn push_dependency(
     problem: &Problem,
     table: &LiteralTable,
     name: &str,
-    dependency: &(Hash, Kinds),
+    dependency: &Dependency,
 ) -> Result<(), AllocError>
     ensures { OnOk result (parts.new.items ≡ parts.old.items
-        ++ only_if (dependency.now.1.link || dependency.now.1.run)
+        ++ only_if (dependency.now.kinds.link || dependency.now.kinds.run)
         (plain_said table.now (dependency_rule problem.now name.now dependency.now))) }
 {
-    if !is_kept(dependency.1) {
+    if !is_kept(dependency.kinds) {
         return Ok(());
     }
     parts.push(child_formula(alloc, problem, table, name, dependency)?)?;
@@ -88,11 +92,11 @@ fn dependency_parts(
     problem: &Problem,
     table: &LiteralTable,
     name: &str,
-    dependencies: &[(Hash, Kinds)],
+    dependencies: &[Dependency],
 ) -> Result<Vec<Formula>, AllocError>
     ensures { IfOk result (λ parts. parts.items
         ≡ map (λ d. plain_said table.now (dependency_rule problem.now name.now d))
-        (filter (λ d. d.1.link || d.1.run) dependencies.now)) }
+        (filter (λ d. d.kinds.link || d.kinds.run) dependencies.now)) }
 {
     let mut parts = Vec::new(alloc);
     for dependency in dependencies {

@@ -15,6 +15,7 @@ mod kept_rows;
 mod kinds;
 mod names;
 mod origins;
+mod provided;
 mod provider_rows;
 mod theorems;
 mod variant_lists;

@@ -40,7 +40,7 @@ fn just_part<'a>(choice: &(Word, Lit), values: &'a [Word]) -> (Lit, &'a [Word])
 }
 
 // Just these values are chosen, in this order.
-fn push_just(
+pub(crate) fn push_just(
     alloc: Global,
     parts: &mut Vec<Formula>,
     choices: &[(Word, Lit)],

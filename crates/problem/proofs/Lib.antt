@@ -3,3 +3,4 @@ pub mod NumberLaws
 pub mod RequiredLaws
 pub mod OfVariantValues
 pub mod OfKeyedLists
+mod DemandLaws

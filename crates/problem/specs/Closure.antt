@@ -33,7 +33,7 @@ possible_children problem (Some name) = if is_virtual problem.recipes name then 
 
 -- the names of the link and run children of a record
 abbrev pub kept_names : Problem → Record → List Text
-kept_names problem entry = filter_map (λ d. option_map (λ child. child.name) (record_at problem d.0)) (kept_dependencies entry)
+kept_names problem entry = filter_map (λ d. option_map (λ child. child.name) (record_at problem d.hash)) (kept_dependencies entry)
 
 -- the names that a member brings with it
 unfoldable pub next_names : Problem → Text → List Text

@@ -1,5 +1,5 @@
 -- What may be demanded of a graph: that a root's spec holds, that a directive is kept, and what the settings ask.
-use Rattle.std.specs.Prelude.{◌≡◌, List, ◌++◌, map, flat_map, length}
+use Rattle.std.specs.Prelude.{◌≡◌, ℕ, List, ◌++◌, map, flat_map, length}
 use Rattle.std.specs.List.{range_with_len}
 use Rattle.condition_rules.specs.OfConditions.Right.{numbers_of}
 use Rattle.condition_rules.specs.OfConditions.Recipe.{Recipe}
@@ -21,6 +21,7 @@ unfoldable pub demands : Problem → List Demand
 demands problem = (map demand.Root (range_with_len 0 (length problem.roots)) ++ directives_of problem.recipes)
     ++ settings_of problem.settings.packages
 
--- a list of just the demands, in their order
-abbrev pub AreDemands : Problem → List Demand → Type 0
-AreDemands problem list = list ≡ demands problem
+-- a list of just the demands, in their order, where so many specs are requested
+abbrev pub AreDemandsOfMost : ℕ → List Recipe → List PackageEntry → List Demand → Type 0
+AreDemandsOfMost most recipes packages list =
+    list ≡ (map demand.Root (range_with_len 0 most) ++ directives_of recipes) ++ settings_of packages

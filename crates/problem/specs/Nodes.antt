@@ -21,7 +21,8 @@ is_installed hash node = elim node.origin [ Built ↦ false | External place ↦
 abbrev pub covers : Kinds → Kinds → Bool
 covers kinds wanted = implies wanted.build kinds.build && implies wanted.link kinds.link && implies wanted.run kinds.run
 
--- what a value of type `Graph` is: a graph in which the values of each variant are a set
+-- what a value of type `Graph` is: a graph in which the values of each variant are a set, and the virtuals of each edge
 pub record IsWellFormed (graph : Content) : Type 0 where
   pub is_graph : IsGraph graph
   pub values : All (λ node. All (λ v. IsInByteOrder v.1) node.variants) graph.nodes
+  pub virtuals : All (λ edge. IsInByteOrder edge.virtuals) graph.edges

@@ -1,5 +1,5 @@
 -- A problem, and what is looked up in it.
-use Rattle.std.specs.Prelude.{Bool, true, ◌&&◌, ℕ, ◌+◌, List, [], ◌∷◌, find, Option, Some, None, option_and_then}
+use Rattle.std.specs.Prelude.{Bool, true, ◌&&◌, ℕ, ◌+◌, List, [], ◌∷◌, map, find, Option, Some, None, option_and_then}
 use Rattle.std.specs.Str.{bytes_eq}
 use Rattle.condition_rules.specs.OfGraphCore.Graphs.{Text, Content}
 use Rattle.condition_rules.specs.OfGraphCore.Node.{Node}
@@ -13,6 +13,7 @@ use Rattle.condition_rules.specs.OfConditions.Recipe.{Recipe}
 use Rattle.condition_rules.specs.OfConditions.VersionRow.{VersionRow}
 use Rattle.condition_rules.specs.OfConditions.VariantRow.{VariantRow}
 use Rattle.condition_rules.specs.OfConditions.DependRow.{DependRow}
+use Rattle.recipe_data.specs.declared.recipe.ProvideRow.{ProvideRow}
 use Rattle.condition_rules.specs.OfConditions.ConflictRow.{ConflictRow}
 use Rattle.condition_rules.specs.OfConditions.RequireRow.{RequireRow}
 use Rattle.site_settings.specs.declared.settings.PackageEntry.{PackageEntry}
@@ -49,6 +50,9 @@ variants_at problem name = rows (λ recipe. recipe.variants) (recipe_at problem 
 
 abbrev pub depends_at : Problem → Text → List DependRow
 depends_at problem name = rows (λ recipe. recipe.depends) (recipe_at problem name)
+
+abbrev pub provides_at : Problem → Text → List ProvideRow
+provides_at problem name = rows (λ recipe. recipe.provides) (recipe_at problem name)
 
 abbrev pub conflicts_at : Problem → Text → List ConflictRow
 conflicts_at problem name = rows (λ recipe. recipe.conflicts) (recipe_at problem name)
@@ -108,3 +112,13 @@ asked_by problem graph row = option_and_then (asked_node (world_of problem) grap
 -- the same problem with another budget
 abbrev pub with_budget : ℕ → Problem → Problem
 with_budget budget problem = record problem { settings = record problem.settings { conflict_budget = budget } }
+
+-- ---- roots by themselves
+
+-- the same problem with one requested spec alone
+abbrev pub alone : Problem → Spec → Problem
+alone problem root = record problem { roots = root ∷ [] }
+
+-- the problem of each requested spec by itself
+abbrev pub apart : Problem → List Problem
+apart problem = map (alone problem) problem.roots

@@ -14,6 +14,7 @@ ghost use Rattle.problem.specs.declared.fault.ProblemFault.TheVariants.{WrongPla
 use crate::demands::all_demands;
 use crate::known::is_known;
 use crate::platforms::wrong_platform;
+use crate::problem::Shared;
 use crate::required::required_of;
 use crate::{Demand, Problem, ProblemFault};
 use condition_rules::{Providers, Recipe, Spec};
@@ -21,11 +22,13 @@ use plain_data::{Duplicate, List, Word};
 use reuse_db::Database;
 use site_settings::{PackageEntry, Settings};
 use std::alloc::{AllocError, Global};
+use std::sync::Arc;
 
 /// The problem of these parts; takes them whatever it answers.
 ///
 /// It looks at the requested specs in order, and at each for what `ProblemFault` names, in its
 /// order.
+#[tactic(auto, unfolding(crate::specs::Demands::demands), using(crate::proofs::AssembledLaws::assembled))]
 pub fn assemble(
     alloc: Global,
     recipes: List<Recipe>,
@@ -48,15 +51,20 @@ pub fn assemble(
         settings.packages.as_slice(),
     )?;
     let required = required_of(alloc, settings.packages.as_slice())?;
-    let problem = Problem {
+    let shared = Shared {
         recipes,
         settings,
         database,
-        roots,
         providers: found.0,
         demands: found.1,
+        most: roots.len(),
         required,
     };
+    let shared = match Arc::new(alloc, shared) {
+        Ok(shared) => shared,
+        Err(_) => return Err(ProblemFault::OutOfMemory),
+    };
+    let problem = Problem { shared, roots };
     unless_refused(alloc, problem)
 }
 

@@ -4,13 +4,15 @@ ghost use Rattle.std.specs.Option.{option_copied};
 ghost use Rattle.problem.specs.Nodes.{is_built, covers};
 ghost use Rattle.problem.specs.Problems.{recipe_at, versions_at, variants_at, depends_at};
 ghost use Rattle.problem.specs.Problems.{conflicts_at, requirements_at, package_entry_of, is_buildable_in};
-ghost use Rattle.problem.specs.Problems.{same_compiler, applies, asked_by};
+ghost use Rattle.problem.specs.Problems.{same_compiler, applies, asked_by, provides_at};
 
 use crate::{Explored, Problem};
 use condition_rules::{Paths, all_hold, asked_node};
 use graph_core::{Compiler, Kinds, Node, Origin};
 use plain_data::{Duplicate, Word};
-use recipe_data::{Condition, ConflictRow, DependRow, Recipe, RequireRow, VariantRow, VersionRow};
+use recipe_data::{
+    Condition, ConflictRow, DependRow, ProvideRow, Recipe, RequireRow, VariantRow, VersionRow,
+};
 use site_settings::PackageEntry;
 use std::alloc::{AllocError, Global};
 use variant_values::ValueSet;
@@ -49,6 +51,16 @@ pub fn depends_at<'a>(problem: &'a Problem, name: &str) -> &'a [DependRow]
 {
     match recipe_at(problem, name) {
         Some(recipe) => recipe.depends.as_slice(),
+        None => &[],
+    }
+}
+
+/// The `provides` of a package, a row for each name.
+pub fn provides_at<'a>(problem: &'a Problem, name: &str) -> &'a [ProvideRow]
+    ensures { result.now ≡ provides_at problem.now name.now }
+{
+    match recipe_at(problem, name) {
+        Some(recipe) => recipe.provides.as_slice(),
         None => &[],
     }
 }

@@ -2,12 +2,12 @@
 ghost use Rattle.std.specs.Prelude.{◌≡◌, IfOk};
 ghost use Rattle.graph_formulas.specs.Variants.{variants_rule};
 ghost use Rattle.graph_formulas.specs.Edges.{extra_edges_rule};
+ghost use Rattle.graph_formulas.specs.Laws.{virtuals_on, variants_of};
 ghost use Rattle.literal_table.specs.Tables.{children_of};
-ghost use Rattle.graph_formulas.specs.Laws.{variants_of};
 ghost use Rattle.graph_formulas.specs.Terms.{where_built};
 ghost use Rattle.graph_formulas.specs.Words.{names_for};
 ghost use Rattle.rule_formulas.specs.Terms.{plain_term};
-ghost use Rattle.problem_formulas.specs.Rows.{variant_row, extra_row, used_row};
+ghost use Rattle.problem_formulas.specs.Rows.{variant_row, extra_row, used_row, together_row, together_said};
 
 use clause_formulas::Formula;
 use literal_table::LiteralTable;
@@ -15,7 +15,8 @@ use node_formulas::{each_name, each_virtual};
 use plain_data::Word;
 use problem::Problem;
 use rule_formulas::{
-    MetConditions, extra_edges_formula, used_formula, variants_formula, where_built,
+    MetConditions, extra_edges_formula, together_formula, used_formula, variants_formula,
+    where_built,
 };
 use std::alloc::{AllocError, Global};
 
@@ -60,7 +61,7 @@ fn extra_at<C: MetConditions>(
 ) -> Result<Formula, AllocError>
     ensures { IfOk result (λ formula. formula ≡ plain_term table.now (C.condition_of conditions.now)
         (where_built name.now (extra_edges_rule problem.now (names_for table.now)
-        (children_of table.now name.now) name.now))) }
+        (virtuals_on table.now name.now) (children_of table.now name.now) name.now))) }
 {
     let rule = extra_edges_formula(alloc, problem, table, conditions, name.as_str())?;
     where_built(alloc, table, name.as_str(), rule)
@@ -84,18 +85,36 @@ pub(crate) fn extra_row<C: MetConditions>(
 }
 
 /// The providers of all virtuals.
-pub(crate) fn used_row<C: MetConditions>(
+pub(crate) fn used_row(alloc: Global, table: &LiteralTable) -> Result<Formula, AllocError>
+    ensures { IfOk result (λ formula. formula ≡ used_row table.now) }
+{
+    each_virtual(alloc, table, |name| used_formula(alloc, table, name))
+}
+
+/// The providers of one virtual by directives that name several.
+#[tactic(auto, unfolding(crate::specs::Rows::together_said))]
+fn together_at(
     alloc: Global,
     problem: &Problem,
     table: &LiteralTable,
-    conditions: &C,
+    name: &Word,
 ) -> Result<Formula, AllocError>
-    ensures { IfOk result (λ formula. formula
-        ≡ used_row problem.now table.now (C.condition_of conditions.now)) }
+    ensures { IfOk result (λ formula. formula ≡ together_said problem.now table.now name.now) }
+{
+    together_formula(alloc, problem, table, name)
+}
+
+/// The providers of all virtuals by directives that name several.
+pub(crate) fn together_row(
+    alloc: Global,
+    problem: &Problem,
+    table: &LiteralTable,
+) -> Result<Formula, AllocError>
+    ensures { IfOk result (λ formula. formula ≡ together_row problem.now table.now) }
 {
     each_virtual(
         alloc,
         table,
-        |name| used_formula(alloc, problem, table, conditions, name),
+        |name| together_at(alloc, problem, table, name),
     )
 }

@@ -3,7 +3,7 @@ ghost use Rattle.std.specs.Prelude.{◌≡◌, ◌++◌, IfOk, OnOk};
 ghost use Rattle.clause_formulas.specs.Statements.{all_statements};
 ghost use Rattle.problem_formulas.specs.Rows.{first_rows, more_rows, last_rows, rows_said};
 
-use crate::rows::{extra_row, used_row, variant_row};
+use crate::rows::{extra_row, together_row, used_row, variant_row};
 use clause_formulas::Formula;
 use literal_table::LiteralTable;
 use node_formulas::{
@@ -53,7 +53,7 @@ fn push_more<C: MetConditions>(
     Ok(())
 }
 
-// The rules of kept nodes, of providers, and of providers that none uses.
+// The rules of kept nodes, of providers, of such as none uses, and of such as come together.
 fn push_last<C: MetConditions>(
     alloc: Global,
     parts: &mut Vec<Formula>,
@@ -68,8 +68,10 @@ fn push_last<C: MetConditions>(
     parts.push(kept)?;
     let provider = provider_row(alloc, problem, table)?;
     parts.push(provider)?;
-    let used = used_row(alloc, problem, table, conditions)?;
+    let used = used_row(alloc, table)?;
     parts.push(used)?;
+    let together = together_row(alloc, problem, table)?;
+    parts.push(together)?;
     Ok(())
 }
 

@@ -1,16 +1,16 @@
 //! Rows of graphs.
 //!
 //! The items are put one after another: `NAME` or `NAME@VERSION` is a node with one variant and a
-//! compiler, at 1.0 without a version, `PARENT>CHILD` an edge for linking, `VIRTUAL=PACKAGE` a
-//! provider.
+//! compiler, at 1.0 without a version, `PARENT>CHILD` an edge for linking, which names virtuals in
+//! `PARENT>CHILD:VIRTUAL,..`, `VIRTUAL=PACKAGE` a provider.
 //! Those that were not put are answered, and how many nodes there are.
 //! Questions: `nodes`, `edges`, `providers`, `node NAME`, `from NAME`, `provider VIRTUAL`,
 //! `reaches FROM TO`, `leads FROM TO` (asked of all paths at once), `copy NAME` (a node and its
-//! copy).
+//! copy), `copy PARENT CHILD` (an edge and its copy).
 
-use crate::nodes::{compiler_of, edge_of, plain_node};
+use crate::nodes::{add_names, compiler_of, edge_of, plain_node};
 use crate::show::{push_bool, push_edge, push_node, push_word};
-use graph_core::{Graph, Kinds, Node, Reach, reaches};
+use graph_core::{Edge, Graph, Kinds, Node, Reach, reaches};
 use plain_data::{Duplicate, Same, Word};
 use std::alloc::{AllocError, Global};
 use variant_values::ValueSet;
@@ -100,10 +100,23 @@ fn choose(alloc: Global, node: &mut Node) -> Result<(), VersionFault> {
     Ok(())
 }
 
+/// An edge for linking; behind the child may stand what it names.
+fn named_edge(alloc: Global, parent: &str, words: &str) -> Result<Edge, AllocError> {
+    let (child, names) = words.split_once(':').unwrap_or((words, ""));
+    let mut edge = edge_of(alloc, parent, child, LINKED)?;
+    match add_names(alloc, &mut edge.virtuals, names) {
+        Ok(()) => Ok(edge),
+        Err(fault) => {
+            drop(edge);
+            Err(fault)
+        }
+    }
+}
+
 /// Puts one item; whether it was put.
 pub(crate) fn put(alloc: Global, graph: &mut Graph, item: &str) -> Result<bool, AllocError> {
     if let Some((parent, child)) = item.split_once('>') {
-        return graph.add_edge(edge_of(alloc, parent, child, LINKED)?);
+        return graph.add_edge(named_edge(alloc, parent, child)?);
     }
     if let Some((name, provider)) = item.split_once('=') {
         return graph.set_provider(Word::new(alloc, name)?, Word::new(alloc, provider)?);
@@ -129,6 +142,7 @@ fn ask(
         [what, from, to] if *what == "reaches" => {
             push_bool(text, reaches(alloc, graph, from, to)?)
         }
+        [what, from, to] if *what == "copy" => copy_edge(alloc, text, graph, from, to),
         [what, from, to] if *what == "leads" => push_bool(text, reach.leads(from, to)),
         _ => push_word(text, "no"),
     }
@@ -186,6 +200,30 @@ fn copy(alloc: Global, text: &mut String, graph: &Graph, name: &str) -> Result<(
         }
         None => push_word(text, "none"),
     }
+}
+
+/// An edge's copy, and whether it is the same as the edge.
+fn copy_edge(
+    alloc: Global,
+    text: &mut String,
+    graph: &Graph,
+    parent: &str,
+    child: &str,
+) -> Result<(), AllocError> {
+    match graph.edge(parent, child) {
+        Some(edge) => {
+            let copy = edge.duplicate(alloc)?;
+            let shown = push_copied(text, edge, &copy);
+            drop(copy);
+            shown
+        }
+        None => push_word(text, "none"),
+    }
+}
+
+fn push_copied(text: &mut String, edge: &Edge, copy: &Edge) -> Result<(), AllocError> {
+    push_edge(text, copy)?;
+    push_bool(text, edge.same(copy))
 }
 
 fn push_copy(text: &mut String, node: &Node, copy: &Node) -> Result<(), AllocError> {

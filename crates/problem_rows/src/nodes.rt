@@ -3,6 +3,7 @@
 use graph_core::{Compiler, Edge, Kinds, Node, Origin};
 use plain_data::{List, Word};
 use std::alloc::{AllocError, Global};
+use variant_values::ValueSet;
 use version_order::Version;
 
 /// A node without variants and compiler, on `ubuntu22.04` and `x86_64`.
@@ -30,7 +31,21 @@ pub(crate) fn compiler_of(alloc: Global) -> Result<Compiler, AllocError> {
     })
 }
 
-/// An edge of these kinds.
+/// Adds the names of a list with commas.
+pub(crate) fn add_names(
+    alloc: Global,
+    names: &mut ValueSet,
+    words: &str,
+) -> Result<(), AllocError> {
+    for word in words.split(',') {
+        if !word.is_empty() {
+            names.insert(Word::new(alloc, word)?)?;
+        }
+    }
+    Ok(())
+}
+
+/// An edge of these kinds, which names no virtuals.
 pub(crate) fn edge_of(
     alloc: Global,
     parent: &str,
@@ -43,5 +58,6 @@ pub(crate) fn edge_of(
         parent,
         child,
         kinds,
+        virtuals: ValueSet::new(alloc),
     })
 }

@@ -21,12 +21,19 @@ pub(crate) fn push_node(text: &mut String, node: &Node) -> Result<(), AllocError
     text.push_str(node.version.text())
 }
 
-/// An edge as its ends and kinds.
+/// An edge as its ends, its kinds, and the virtuals that it names.
 pub(crate) fn push_edge(text: &mut String, edge: &Edge) -> Result<(), AllocError> {
     push_word(text, edge.parent.as_str())?;
     text.push_str(">")?;
     text.push_str(edge.child.as_str())?;
-    text.push_str(letters_of(edge.kinds))
+    text.push_str(letters_of(edge.kinds))?;
+    let mut sign = "=";
+    for name in edge.virtuals.values() {
+        text.push_str(sign)?;
+        text.push_str(name.as_str())?;
+        sign = ",";
+    }
+    Ok(())
 }
 
 fn letters_of(kinds: Kinds) -> &'static str {

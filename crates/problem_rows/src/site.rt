@@ -2,18 +2,20 @@
 //!
 //! `require NAME CONDITION..` is what the settings require of a package, item by item;
 //! `package NAME` is what the settings say of a package without externals, `external NAME` of one
-//! with an external; `record NAME CHILD:KIND..` is an installed package, whose children are records
-//! above it. NAME may have a version behind `@`, which is 1 without, and then `%gcc`, which is gcc
-//! 12.2; CHILD may have a version too. KIND is `build`, `link` or `run`, or several joined by `+`.
+//! with an external; `record NAME CHILD:KIND=VIRTUAL,.. ..` is an installed package, whose children
+//! are records above it. NAME may have a version behind `@`, which is 1 without, and then `%gcc`,
+//! which is gcc 12.2; CHILD may have a version too. KIND is `build`, `link` or `run`, or several
+//! joined by `+`; without `=` a child provides nothing.
 
-use crate::nodes::compiler_of;
+use crate::nodes::{add_names, compiler_of};
 use graph_core::{Compiler, Kinds};
 use plain_data::{List, Word};
-use reuse_db::{Database, DbFault, Record, canonical};
+use reuse_db::{Database, DbFault, Dependency, Record, canonical};
 use site_settings::{ExternalEntry, PackageEntry, RequireEntry, Settings};
 use spec_grammar::{Condition, read_condition};
 use spec_hash::{Hash, hash_text};
 use std::alloc::{AllocError, Global};
+use variant_values::ValueSet;
 use version_order::Version;
 
 /// What a site has.
@@ -133,16 +135,28 @@ fn hash_at(records: &[Record], word: &str) -> Option<Hash> {
     None
 }
 
+/// A child, by its kinds and what it names behind `=`.
+fn dependency_of(alloc: Global, hash: Hash, how: &str) -> Result<Dependency, AllocError> {
+    let (kind, names) = how.split_once('=').unwrap_or((how, ""));
+    let mut virtuals = ValueSet::new(alloc);
+    add_names(alloc, &mut virtuals, names)?;
+    Ok(Dependency {
+        hash,
+        kinds: kinds_of(kind),
+        virtuals,
+    })
+}
+
 fn children_of(
     alloc: Global,
     records: &[Record],
     words: &str,
-) -> Result<List<(Hash, Kinds)>, AllocError> {
+) -> Result<List<Dependency>, AllocError> {
     let mut children = List::new(alloc);
     for word in words.split_whitespace() {
-        let (name, kind) = word.split_once(':').unwrap_or((word, "link"));
+        let (name, how) = word.split_once(':').unwrap_or((word, "link"));
         if let Some(hash) = hash_at(records, name) {
-            children.push((hash, kinds_of(kind)))?;
+            children.push(dependency_of(alloc, hash, how)?)?;
         }
     }
     Ok(children)

@@ -19,7 +19,7 @@ use Rattle.possible_closure.proofs.Lists.{none_in_order, texts_in_order}
 use Rattle.table_plan.specs.Plans.{variant_names, variant_values, possible_at, asked_virtuals, possible_packages, plan_of}
 use Rattle.literal_table.specs.Choices.{Choices, passing}
 use Rattle.literal_table.specs.declared.block.Block.{Block}
-use Rattle.table_plan.specs.Numbers.{positive_lit, width_of, widths, numbered, variants_from, block_from, provider_from, providers_from, table_from}
+use Rattle.table_plan.specs.Numbers.{edge_widths, positive_lit, width_of, widths, numbered, variants_from, block_from, provider_from, providers_from, table_from}
 use Rattle.cost_terms.specs.declared.weighted.Weighted.{Weighted}
 use Rattle.cost_terms.specs.Weighed.{top_said}
 use Rattle.cost_terms.specs.Differ.{is_any_text, is_some_compiler, same_compilers}
@@ -212,7 +212,7 @@ module _ (problem : Problem) (limits : IsWithin problem) (names : List Text) (ri
   providers b there =
       let plan = plan_of problem names in
       let all : top_said (provider_terms problem (Own problem names n) b) ≤ 2 ^ 52 =
-      virtuals-top b.name (n + widths plan.nodes + 3 * length plan.edges) in
+      virtuals-top b.name (n + widths plan.nodes + edge_widths plan.edges) in
       omega arith
 
   -- ---- edges

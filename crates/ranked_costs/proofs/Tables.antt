@@ -1,6 +1,6 @@
 -- How much the table of a problem's own plan has.
-use Rattle.std.proofs.Common.{◌≡◌, refl, sym, ap, ◌∙◌, ℕ, ◌+◌, ◌^◌, ◌≤◌, true, List, [], ◌∷◌, map, length, Option, Some, None, Contains, ⊎_elim, arith}
-use Rattle.std.specs.List.{filter, filter_map, cons_option, flat_map, sum_by}
+use Rattle.std.proofs.Common.{◌≡◌, refl, sym, ap, ◌∙◌, ℕ, ◌+◌, ◌^◌, ◌≤◌, true, List, [], ◌∷◌, map, length, Option, Some, None, Contains, ⊎_elim, inl, subst, arith}
+use Rattle.std.specs.List.{filter, flat_map, list_any, sum_by}
 use Rattle.std.specs.Ordering.{eq_by_cmp}
 use Rattle.std.specs.Str.{bytes_eq}
 use Rattle.std.specs.Cmp.Lexicographic.{bytes_decides}
@@ -8,24 +8,27 @@ use Rattle.std.proofs.lemmas.List.{length-map}
 use Rattle.std.proofs.lemmas.List.Concat.{length-flat_map}
 use Rattle.std.proofs.lemmas.List.Sums.{sum_by-cons, length-filter, count_by-le-length}
 use Rattle.reachability.proofs.CountLaws.{has_first, has_later, first_or_later, image_of}
-use Rattle.variant_values.specs.Texts.{byte_cmp, IsInByteOrder}
+use Rattle.variant_values.specs.Texts.{byte_cmp, IsInByteOrder, with_texts}
 use Rattle.keyed_lists.specs.Keyed.{find_key}
 use Rattle.keyed_lists.specs.Given.{adds_or_none}
 use Rattle.graph_core.specs.Graphs.{Text}
 use Rattle.graph_core.specs.Given.{pairs_of}
 use Rattle.graph_core.proofs.PairLaws.{tells_alike}
-use Rattle.recipe_data.specs.declared.recipe.DependRow.{DependRow}
+use Rattle.recipe_data.specs.declared.recipe.ProvideRow.{ProvideRow}
 use Rattle.recipe_data.specs.declared.recipe.Recipe.{Recipe}
-use Rattle.virtuals.specs.Virtuals.{recipe_name, is_virtual}
+use Rattle.virtuals.specs.Virtuals.{recipe_name, provides_name, is_virtual}
+use Rattle.graph_rules.proofs.Lists.{In, In-contains, In-flat_map, In-map, any-in}
+use Rattle.possible_closure.proofs.Lists.{nothing, from_texts, in_texts, none_in_order, texts_in_order, no_more}
+use Rattle.reachability.proofs.SpreadLaws.{from_filter}
 use Rattle.condition_rules.specs.Words.{is_one_text}
 use Rattle.condition_rules.specs.Worlds.{recipe_of, rows}
-use Rattle.problem.specs.Problems.{Problem, recipe_at, depends_at}
+use Rattle.problem.specs.Problems.{Problem, recipe_at}
 use Rattle.problem.specs.Closure.{next_names}
-use Rattle.table_plan.specs.Plans.{possible_at, possible_edges, asked_virtuals, plan_of}
+use Rattle.table_plan.specs.Plans.{possible_at, possible_edge, possible_edges, wanted_names, asked_virtuals, plan_of}
 use Rattle.literal_table.specs.Tables as tables
 use Rattle.literal_table.specs.Tables.{Table}
 use Rattle.literal_table.specs.declared.block.Block.{Block}
-use Rattle.table_plan.specs.Numbers.{numbered_run, block_width, widths, block_from, blocks_from, edge_from, table_from}
+use Rattle.table_plan.specs.Numbers.{numbered_run, block_width, widths, block_from, blocks_from, edge_from, edge_width, table_from}
 use Rattle.problem.specs.Limits.{size_of_recipe, most_names}
 use Rattle.ranked_costs.proofs.Sums.{sum-le-in, sum-same, found}
 use Rattle.ranked_costs.proofs.Weights.{IsWithin}
@@ -57,14 +60,6 @@ module _ {X Y : Type 0} (make : ℕ → X → Y) (wide : X → ℕ) where
       let rest = run-sum f g (n + wide x) xs (λ m y there. le m y (has_later x xs y there)) in
       omega (arith, here, rest, sum_by-cons f (make n x) (numbered_run make wide (n + wide x) xs), sum_by-cons g x xs)
 
-filter_map-le : {X Y : Type 0} (f : X → Option Y) (xs : List X) → length (filter_map f xs) ≤ length xs
-filter_map-le f [] = omega arith
-filter_map-le {Y = Y} f (x ∷ xs) = filter_map-le-cases (filter_map-le f xs) (f x)
-  where
-    filter_map-le-cases : length (filter_map f xs) ≤ length xs → (o : Option Y) → length (cons_option o (filter_map f xs)) ≤ length (x ∷ xs)
-    filter_map-le-cases rest None = omega arith
-    filter_map-le-cases rest (Some y) = omega arith
-
 -- ---- what is found at names that stand once
 
 -- texts that test equal
@@ -95,23 +90,38 @@ module _ (problem : Problem) (limits : IsWithin problem) (names : List Text) (ri
 
   -- ---- virtuals
 
-  -- few virtuals are asked for
+  -- the names that recipes provide
+  abbrev provided : List Text
+  provided = flat_map (λ (recipe : Recipe). map (λ (row : ProvideRow). row.name) recipe.provides) problem.recipes
+
+  -- a virtual is one of them
+  is-provided : (virtual : Text) → is_virtual problem.recipes virtual ≡ true → Contains provided virtual
+  unfolding is_virtual provides_name
+  is-provided virtual h =
+      let recipe = any-in (λ (recipe : Recipe). list_any (λ row. bytes_eq row.name virtual) recipe.provides) problem.recipes h in
+      let row = any-in (λ (row : ProvideRow). bytes_eq row.name virtual) recipe.0.provides recipe.2 in
+      In-contains provided virtual (In-flat_map (λ (r : Recipe). map (λ (x : ProvideRow). x.name) r.provides) problem.recipes recipe.0 virtual recipe.1
+      (subst (λ n. In n (map (λ (x : ProvideRow). x.name) recipe.0.provides)) (eq-same row.0.name virtual row.2)
+      (In-map (λ (x : ProvideRow). x.name) recipe.0.provides row.0 row.1)))
+
+  -- few virtuals are asked for: each is one that a recipe provides, and stands once
   pub virtuals-few : length (asked_virtuals problem names) ≤ 2 ^ 28
   unfolding asked_virtuals
   virtuals-few =
-      let asked = flat_map (λ name. filter_map (λ (row : DependRow). row.part.name) (depends_at problem name)) names in
-      let each = sum-le-in (λ name. length (filter_map (λ (row : DependRow). row.part.name) (depends_at problem name)))
-      (λ name. length (depends_at problem name)) names
-      (λ name there. filter_map-le (λ (row : DependRow). row.part.name) (depends_at problem name)) in
-      let all = rows-shared (λ recipe. recipe.depends) (λ recipe. omega arith) in
+      let wanted = filter (is_virtual problem.recipes) (flat_map (wanted_names problem) names) in
+      let there = no_more (with_texts [] wanted) (with_texts [] provided) (texts_in_order [] wanted none_in_order)
+      (texts_in_order [] provided none_in_order) (λ q asked. in_texts [] provided q (inl (is-provided q
+      (from_filter (is_virtual problem.recipes) (flat_map (wanted_names problem) names) q
+      (⊎_elim (λ has. has) (λ none. absurd (nothing q none)) (from_texts [] wanted q asked))).1))) in
+      let each = sum-le-in (λ (recipe : Recipe). length (map (λ (row : ProvideRow). row.name) recipe.provides)) size_of_recipe
+      problem.recipes (λ recipe of. omega (arith, length-map recipe.provides (λ (row : ProvideRow). row.name))) in
       omega (
         arith,
+        limits.recipes,
+        there,
         each,
-        all,
-        texts-few [] (filter (is_virtual problem.recipes) asked),
-        length-filter (is_virtual problem.recipes) asked,
-        count_by-le-length (is_virtual problem.recipes) asked,
-        length-flat_map (λ name. filter_map (λ (row : DependRow). row.part.name) (depends_at problem name)) names,
+        texts-few [] provided,
+        length-flat_map (λ (recipe : Recipe). map (λ (row : ProvideRow). row.name) recipe.provides) problem.recipes,
       )
 
 -- ---- the table
@@ -161,5 +171,6 @@ module _ (problem : Problem) (names : List Text) (n : ℕ) where
         pairs-few names few,
         length-filter test (pairs_of names),
         count_by-le-length test (pairs_of names),
-        run-length edge_from (λ pair. 3) (n + widths (map (possible_at problem) names)) (filter test (pairs_of names)),
+        run-length edge_from edge_width (n + widths (map (possible_at problem) names)) (map (possible_edge problem) (filter test (pairs_of names))),
+        length-map (filter test (pairs_of names)) (possible_edge problem),
       )

@@ -1,6 +1,7 @@
 -- What a database's JSON says. Keys go in byte order, missing and unknown ones among them, and each fault is a wrong kind.
-use Rattle.std.specs.Prelude.{◌≡◌, ℕ, ◌==◌, List, [], ◌∷◌, codes, Ok, if◌then◌else◌}
-use Rattle.serde_json.specs.Data.{Data}
+use Rattle.std.specs.Prelude.{◌≡◌, ℕ, ◌==◌, Bool, false, ◌||◌, List, [], ◌∷◌, codes, Option, Some, None, option_and_then, Ok, if◌then◌else◌}
+use Rattle.serde_json.specs.Data.{Data, Members}
+use Rattle.serde_json.specs.Find.{as_number, as_u64, get_member}
 use Rattle.json_readers.specs.Faults.{Reading, ◌>>=◌, wrong_kind}
 use Rattle.json_readers.specs.Json.{IsJson}
 use Rattle.json_readers.specs.Lists.{list_of}
@@ -13,15 +14,26 @@ use Rattle.reuse_db.specs.declared.record.Record.{Record}
 abbrev pub file_keys : List (List ℕ)
 file_keys = codes "records" ∷ codes "version" ∷ []
 
--- the number 1
+abbrev pub is_two : Option ℕ → Bool
+is_two None = false
+is_two (Some version) = version == 2
+
+-- the number 1 or 2
 abbrev pub version_at : Data → Reading ℕ
-version_at d = whole_number d >>= λ version. if version == 1 then Ok version else wrong_kind
+version_at d = whole_number d >>= λ version. if version == 1 || version == 2 then Ok version else wrong_kind
+
+abbrev pub number_in : Data → Option ℕ
+number_in d = option_and_then as_u64 (as_number d)
+
+-- the file's version is 2, in which dependencies may name virtuals; a file of another version is read as one of version 1
+abbrev pub may_name : Members → Bool
+may_name ms = is_two (option_and_then number_in (get_member (codes "version") ms))
 
 unfoldable pub records_at : Data → Reading (List Record)
 records_at d = do
   ms ← members_of d
   let odd = first_odd file_keys ms in do
-    records ← field (list_of record_entry_at) odd (codes "records") ms
+    records ← field (list_of (record_entry_at (may_name ms))) odd (codes "records") ms
     version ← field version_at odd (codes "version") ms
     _ ← none_odd odd
     Ok records

@@ -1,13 +1,16 @@
 //! The values of a file.
-ghost use Rattle.record_reader.specs.Files.{records_at, version_at};
+ghost use Rattle.std.specs.Prelude.{◌≡◌};
+ghost use Rattle.serde_json.specs.View.{members_view};
+ghost use Rattle.record_reader.specs.Files.{may_name, records_at, version_at};
 
 use crate::RecordForm;
 use json_readers::{
-    JsonFault, ListOf, Reader, WholeNumber, Wrong, at_root, field, first_odd, members_of, none_odd,
+    JsonFault, ListOf, Reader, WholeNumber, Wrong, at_root, field, first_odd, member, members_of,
+    none_odd,
 };
 use plain_data::List;
 use reuse_db::Record;
-use serde_json::Value;
+use serde_json::{Map, Value};
 use std::alloc::Global;
 
 /// An object with `records` and `version`.
@@ -20,24 +23,41 @@ impl Reader<List<Record>> for RecordsForm {
     #[tactic(auto, unfolding(crate::specs::Files::records_at))]
     fn read(&self, alloc: Global, value: &Value) -> Result<List<Record>, JsonFault> {
         let members = members_of(alloc, value)?;
+        let may_name = may_name(members);
         let odd = first_odd(members, &["records", "version"]);
-        let records = field(alloc, members, odd, "records", &ListOf(RecordForm))?;
-        let _version = field(alloc, members, odd, "version", &VersionOne)?;
+        let records = field(
+            alloc,
+            members,
+            odd,
+            "records",
+            &ListOf(RecordForm { may_name }),
+        )?;
+        let _version = field(alloc, members, odd, "version", &FileVersion)?;
         none_odd(alloc, odd)?;
         Ok(records)
     }
 }
 
-/// The number 1, the version of a file's format.
-#[derive(Clone, Copy)]
-pub struct VersionOne;
+/// Whether the version of a file's format is 2, in which dependencies may name virtuals.
+pub fn may_name(members: &Map<String, Value>) -> bool
+    ensures { result ≡ may_name (members_view members.now.entries) }
+{
+    match member(members, "version") {
+        Some(version) => version.as_u64() == Some(2),
+        None => false,
+    }
+}
 
-impl Reader<u64> for VersionOne {
+/// The number 1 or 2, the version of a file's format.
+#[derive(Clone, Copy)]
+pub struct FileVersion;
+
+impl Reader<u64> for FileVersion {
     ghost reads = { λ _. version_at };
 
     fn read(&self, alloc: Global, value: &Value) -> Result<u64, JsonFault> {
         let version = WholeNumber.read(alloc, value)?;
-        if version == 1 {
+        if version == 1 || version == 2 {
             Ok(version)
         } else {
             at_root(alloc, Wrong::WrongKind)

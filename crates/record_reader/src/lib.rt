@@ -23,8 +23,8 @@ mod theorems;
 mod variants;
 
 pub use compiler::CompilerForm;
-pub use dependency::DependencyForm;
-pub use file::{RecordsForm, VersionOne};
+pub use dependency::{DependencyForm, VirtualsForm};
+pub use file::{FileVersion, RecordsForm, may_name};
 pub use hash::HashText;
 pub use kinds::KindsForm;
 pub use read::read_database;

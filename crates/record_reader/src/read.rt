@@ -10,7 +10,8 @@ use reuse_db::{Database, DbFault};
 use serde_json::Value;
 use std::alloc::Global;
 
-/// Reads a database: JSON of the form `{"version":1,"records":[..]}`, keys in any order. The
+/// Reads a database: JSON of the form `{"version":1,"records":[..]}`, keys in any order, where in
+/// version 2 a dependency may name virtuals. The
 /// records keep the order of the file, and have their variants in byte order.
 ///
 /// # Errors

@@ -6,13 +6,13 @@ ghost use Rattle.json_readers.specs.Faults.{Gives};
 ghost use Rattle.record_reader.specs.Records.{front_at, middle_at, back_at, record_entry_at};
 
 use crate::{CompilerForm, DependencyForm, HashText, ValuesForm};
-use graph_core::{Compiler, Kinds};
+use graph_core::Compiler;
 use json_readers::{
     AnyText, JsonFault, MapOf, NullOr, Reader, SetOf, Text, field, first_odd, members_of, none_odd,
 };
 use json_texts::{Name, Value as ValueText, VersionText};
 use plain_data::{List, Word};
-use reuse_db::Record;
+use reuse_db::{Dependency, Record};
 use serde_json::{Map, Value};
 use spec_hash::Hash;
 use std::alloc::Global;
@@ -21,7 +21,7 @@ use std::alloc::Global;
 #[derive(Drop)]
 pub struct Front {
     pub compiler: Option<Compiler>,
-    pub dependencies: List<(Hash, Kinds)>,
+    pub dependencies: List<Dependency>,
 }
 
 /// The keys `external`, `hash` and `name`.
@@ -35,10 +35,13 @@ pub struct Middle {
 /// An object with just the keys of a record: missing and unknown keys go with the others in byte
 /// order.
 #[derive(Clone, Copy)]
-pub struct RecordForm;
+pub struct RecordForm {
+    /// Whether dependencies may name virtuals.
+    pub may_name: bool,
+}
 
 impl Reader<Record> for RecordForm {
-    ghost reads = { λ _. record_entry_at };
+    ghost reads = { λ form. record_entry_at form.may_name };
 
     #[tactic(auto, unfolding(crate::specs::Records::record_entry_at))]
     fn read(&self, alloc: Global, value: &Value) -> Result<Record, JsonFault> {
@@ -55,7 +58,7 @@ impl Reader<Record> for RecordForm {
             "version",
         ];
         let odd = first_odd(members, &keys);
-        let front = read_front(alloc, members, odd)?;
+        let front = read_front(alloc, members, odd, self.may_name)?;
         let middle = read_middle(alloc, members, odd)?;
         read_back(alloc, members, odd, front, middle)
     }
@@ -67,15 +70,16 @@ pub fn read_front(
     alloc: Global,
     members: &Map<String, Value>,
     odd: Option<&str>,
+    may_name: bool,
 ) -> Result<Front, JsonFault>
-    ensures { Gives result (front_at (option_map (λ k. k.now) odd.entry)
+    ensures { Gives result (front_at may_name (option_map (λ k. k.now) odd.entry)
         (members_view members.now.entries)) }
 {
     let compiler = field(alloc, members, odd, "compiler", &NullOr(CompilerForm))?;
     let form = SetOf {
         texts: AnyText,
         key: Some("hash"),
-        entries: DependencyForm,
+        entries: DependencyForm { may_name },
     };
     let dependencies = field(alloc, members, odd, "dependencies", &form)?;
     Ok(Front {

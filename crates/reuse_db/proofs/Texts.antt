@@ -10,9 +10,9 @@ use Rattle.serde_json.specs.View.{view, items_of, members_of}
 use Rattle.serde_json.specs.Written.{compact_text, has_float, items_have_float, members_have_float}
 use Rattle.serde_json.specs.declared.value.Value.{Value}
 use Rattle.graph_core.specs.Graphs.{Text}
-use Rattle.graph_core.specs.declared.node.Kinds.{Kinds}
 use Rattle.graph_core.specs.declared.node.Compiler.{Compiler}
-use Rattle.reuse_db.specs.Canonical.{texts_data, compiler_data, external_data, dependency_data, dependency_members, kind_texts, values_of, record_data}
+use Rattle.reuse_db.specs.Canonical.{texts_data, compiler_data, external_data, virtual_members, dependency_data, dependency_members, kind_texts, values_of, record_data}
+use Rattle.reuse_db.specs.declared.record.Dependency.{Dependency}
 use Rattle.reuse_db.specs.declared.record.Record.{Record}
 
 -- the values of a map, in the order of its keys
@@ -56,14 +56,18 @@ variants_float [] ms h = h
 variants_float (v ∷ variants) ms h = variants_float variants (put v.0 (texts_data v.1) ms)
     (put_float v.0 (texts_data v.1) ms (texts_float v.1) h)
 
-dependency_float : (d : Text × Kinds) → has_float (dependency_data d) ≡ false
-dependency_float d = or_from _ _ (texts_float (kind_texts d.1)) refl
+virtuals_float : (names : List Text) → members_have_float (virtual_members names) ≡ false
+virtuals_float [] = refl
+virtuals_float (name ∷ names) = or_from _ _ (texts_float (name ∷ names)) refl
 
-dependencies_float : (dependencies : List (Text × Kinds)) (ms : Members) → members_have_float ms ≡ false
-    → members_have_float (fold (λ ms d. put d.0 (dependency_data d) ms) ms dependencies) ≡ false
+dependency_float : (d : Dependency) → has_float (dependency_data d) ≡ false
+dependency_float d = or_from _ _ (texts_float (kind_texts d.kinds)) (virtuals_float d.virtuals)
+
+dependencies_float : (dependencies : List Dependency) (ms : Members) → members_have_float ms ≡ false
+    → members_have_float (fold (λ ms d. put d.hash (dependency_data d) ms) ms dependencies) ≡ false
 dependencies_float [] ms h = h
 dependencies_float (d ∷ dependencies) ms h =
-    dependencies_float dependencies (put d.0 (dependency_data d) ms) (put_float d.0 (dependency_data d) ms (dependency_float d) h)
+    dependencies_float dependencies (put d.hash (dependency_data d) ms) (put_float d.hash (dependency_data d) ms (dependency_float d) h)
 
 values_float : (ms : Members) → members_have_float ms ≡ false → items_have_float (values_of ms) ≡ false
 values_float no_members h = refl

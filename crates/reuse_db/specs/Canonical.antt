@@ -7,6 +7,7 @@ use Rattle.serde_json.specs.Written.{compact_text}
 use Rattle.graph_core.specs.Graphs.{Text}
 use Rattle.graph_core.specs.declared.node.Compiler.{Compiler}
 use Rattle.graph_core.specs.declared.node.Kinds.{Kinds}
+use Rattle.reuse_db.specs.declared.record.Dependency.{Dependency}
 use Rattle.reuse_db.specs.declared.record.Record.{Record}
 
 abbrev pub texts_data : List Text → Data
@@ -34,12 +35,18 @@ kind_texts kinds =
     ++ (if kinds.link then codes "link" ∷ [] else [])
     ++ (if kinds.run then codes "run" ∷ [] else [])
 
-abbrev pub dependency_data : Text × Kinds → Data
-dependency_data d = object (member (codes "hash") (string d.0) (member (codes "kinds") (texts_data (kind_texts d.1)) no_members))
+-- what is provided, where something is
+abbrev pub virtual_members : List Text → Members
+virtual_members [] = no_members
+virtual_members (name ∷ names) = member (codes "virtuals") (texts_data (name ∷ names)) no_members
+
+abbrev pub dependency_data : Dependency → Data
+dependency_data d = object
+    (member (codes "hash") (string d.hash) (member (codes "kinds") (texts_data (kind_texts d.kinds)) (virtual_members d.virtuals)))
 
 -- the dependencies by bytes of their hashes
-abbrev pub dependency_members : List (Text × Kinds) → Members
-dependency_members dependencies = fold (λ ms d. put d.0 (dependency_data d) ms) no_members dependencies
+abbrev pub dependency_members : List Dependency → Members
+dependency_members dependencies = fold (λ ms d. put d.hash (dependency_data d) ms) no_members dependencies
 
 abbrev pub values_of : Members → Items
 values_of no_members = no_items

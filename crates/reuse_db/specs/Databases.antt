@@ -3,8 +3,8 @@ use Rattle.std.specs.Prelude.{◌≡◌, ℕ, ◌<◌, Bool, not, ◌&&◌, ◌|
 use Rattle.std.specs.List.{HoldsAt, list_any}
 use Rattle.std.specs.Str.{bytes_eq}
 use Rattle.graph_core.specs.Graphs.{Text}
-use Rattle.graph_core.specs.declared.node.Kinds.{Kinds}
 use Rattle.reuse_db.specs.Canonical.{right_hash}
+use Rattle.reuse_db.specs.declared.record.Dependency.{Dependency}
 use Rattle.reuse_db.specs.declared.record.Record.{Record}
 use Rattle.reuse_db.specs.declared.fault.DbFault.{DbFault}
 use Rattle.reuse_db.specs.declared.fault.DbFault.TheVariants.{NotJson, WrongKind, HashDiffers, TwiceHash, Dangling, OutOfMemory}
@@ -34,12 +34,12 @@ IsFirstTwice records hash = (place : ℕ) × IsTwice records place × ((k : ℕ)
     × HoldsAt (λ entry. entry.hash ≡ hash) records place
 
 -- a link or run child that is none of these
-abbrev pub is_lost : List Text → (Text × Kinds) → Bool
-is_lost hashes d = (d.1.link || d.1.run) && not (list_any (bytes_eq d.0) hashes)
+abbrev pub is_lost : List Text → Dependency → Bool
+is_lost hashes d = (d.kinds.link || d.kinds.run) && not (list_any (bytes_eq d.hash) hashes)
 
-abbrev pub lost_or : Record → Option (Text × Kinds) → Option (Text × Text) → Option (Text × Text)
+abbrev pub lost_or : Record → Option Dependency → Option (Text × Text) → Option (Text × Text)
 lost_or entry None later = later
-lost_or entry (Some d) later = Some (entry.hash, d.0)
+lost_or entry (Some d) later = Some (entry.hash, d.hash)
 
 -- the first link or run child that is no record, behind its parent
 abbrev pub dangling : List Text → List Record → Option (Text × Text)

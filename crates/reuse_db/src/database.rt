@@ -9,8 +9,7 @@ ghost use Rattle.reuse_db.specs.Databases.{record_of, differing, dangling, is_lo
 
 use crate::places::{place_in, places_of};
 use crate::text::canonical;
-use crate::{DbFault, Record};
-use graph_core::Kinds;
+use crate::{DbFault, Dependency, Record};
 use plain_data::List;
 use spec_hash::{Hash, hash_text};
 use std::alloc::Global;
@@ -129,7 +128,7 @@ fn first_dangling(records: &[Record], places: &BTreeMap<String, usize>) -> Optio
 {
     for entry in records {
         if let Some(child) = lost_child(records, entry, places) {
-            return Some((entry.hash, child.0));
+            return Some((entry.hash, child.hash));
         }
     }
     None
@@ -140,7 +139,7 @@ fn lost_child<'a>(
     records: &[Record],
     entry: &'a Record,
     places: &BTreeMap<String, usize>,
-) -> Option<&'a (Hash, Kinds)>
+) -> Option<&'a Dependency>
     requires { ArePlaces (hashes_of records.now) places.now }
     ensures { option_copied result ≡ find (is_lost (hashes_of records.now)) entry.now.dependencies }
 {
@@ -152,11 +151,11 @@ fn lost_child<'a>(
     None
 }
 
-fn is_lost(records: &[Record], child: &(Hash, Kinds), places: &BTreeMap<String, usize>) -> bool
+fn is_lost(records: &[Record], child: &Dependency, places: &BTreeMap<String, usize>) -> bool
     requires { ArePlaces (hashes_of records.now) places.now }
     ensures { result ≡ is_lost (hashes_of records.now) child.now }
 {
-    (child.1.link || child.1.run) && !is_known(records, &child.0, places)
+    (child.kinds.link || child.kinds.run) && !is_known(records, &child.hash, places)
 }
 
 fn is_known(records: &[Record], hash: &Hash, places: &BTreeMap<String, usize>) -> bool

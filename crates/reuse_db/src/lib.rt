@@ -14,5 +14,5 @@ mod text;
 
 pub use database::Database;
 pub use fault::DbFault;
-pub use record::Record;
+pub use record::{Dependency, Record};
 pub use text::{canonical, record_value};

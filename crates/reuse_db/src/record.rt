@@ -4,6 +4,16 @@ use graph_core::{Compiler, Kinds, ValueSet, Version};
 use plain_data::{List, Word};
 use spec_hash::Hash;
 
+/// What an installed package needs.
+#[derive(Debug, Drop)]
+pub struct Dependency {
+    pub hash: Hash,
+    /// At least one.
+    pub kinds: Kinds,
+    /// What it provides to the package.
+    pub virtuals: ValueSet,
+}
+
 /// An installed package, as a database has it.
 #[derive(Debug, Drop)]
 pub struct Record {
@@ -18,7 +28,6 @@ pub struct Record {
     pub target: Word,
     /// The prefix of an external.
     pub external: Option<Word>,
-    /// The hashes of what it was built with, linked to or run with, each once and with at least one
-    /// kind.
-    pub dependencies: List<(Hash, Kinds)>,
+    /// What it was built with, is linked to or runs with, each hash once.
+    pub dependencies: List<Dependency>,
 }

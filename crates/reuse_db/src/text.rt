@@ -6,11 +6,10 @@ ghost use Rattle.reuse_db.specs.Canonical.{texts_data, compiler_data, external_d
 ghost use Rattle.reuse_db.specs.Canonical.{variant_members, kind_texts, dependency_data};
 ghost use Rattle.reuse_db.specs.Canonical.{dependency_members, values_of, record_data, canonical};
 
-use crate::Record;
+use crate::{Dependency, Record};
 use graph_core::{Compiler, Kinds, ValueSet};
 use plain_data::Word;
 use serde_json::{Map, Value, json};
-use spec_hash::Hash;
 use std::alloc::{AllocError, Global};
 
 /// The canonical text of a record: its compact JSON text without the hash.
@@ -121,24 +120,29 @@ fn kinds_value(alloc: Global, kinds: &Kinds) -> Result<Value, AllocError>
     }
 }
 
-fn dependency_value(alloc: Global, dependency: &(Hash, Kinds)) -> Result<Value, AllocError>
+/// A dependency as an object; its virtuals stand there where it has some.
+fn dependency_value(alloc: Global, dependency: &Dependency) -> Result<Value, AllocError>
     ensures { IfOk result (λ value. view value ≡ dependency_data dependency.now) }
 {
-    let kinds = kinds_value(alloc, &dependency.1)?;
-    json!(in alloc; {"hash": dependency.0.as_str(), "kinds": kinds})
+    let kinds = kinds_value(alloc, &dependency.kinds)?;
+    if dependency.virtuals.is_empty() {
+        return json!(in alloc; {"hash": dependency.hash.as_str(), "kinds": kinds});
+    }
+    let virtuals = texts_value(alloc, dependency.virtuals.values())?;
+    json!(in alloc; {"hash": dependency.hash.as_str(), "kinds": kinds, "virtuals": virtuals})
 }
 
 /// The dependencies in byte order of their hashes, which the map's keys give.
 fn dependencies_by_hash(
     alloc: Global,
-    dependencies: &[(Hash, Kinds)],
+    dependencies: &[Dependency],
 ) -> Result<Map<String, Value>, AllocError>
     ensures { IfOk result (λ map. members_view map.entries ≡ dependency_members dependencies.now) }
 {
     let mut map = Map::new(alloc);
     for dependency in dependencies {
         let value = dependency_value(alloc, dependency)?;
-        serde_json::put(&mut map, alloc, dependency.0.as_str(), value)?;
+        serde_json::put(&mut map, alloc, dependency.hash.as_str(), value)?;
     }
     Ok(map)
 }
@@ -154,7 +158,7 @@ fn values_in(alloc: Global, map: Map<String, Value>) -> Result<Vec<Value>, Alloc
     Ok(values)
 }
 
-fn dependencies_value(alloc: Global, dependencies: &[(Hash, Kinds)]) -> Result<Value, AllocError>
+fn dependencies_value(alloc: Global, dependencies: &[Dependency]) -> Result<Value, AllocError>
     ensures { IfOk result (λ value. view value
         ≡ array (values_of (dependency_members dependencies.now))) }
 {

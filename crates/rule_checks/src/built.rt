@@ -39,7 +39,7 @@ pub fn keeps_version(problem: &Problem, node: &Node) -> bool
     )
 }
 
-fn among(texts: &[Word], text: &str) -> bool
+pub(crate) fn among(texts: &[Word], text: &str) -> bool
     ensures { result ≡ is_one_text texts.now text.now }
 {
     texts.iter().any(|t| text == t.as_str())

@@ -4,14 +4,16 @@ ghost use Rattle.std.specs.List.{list_any};
 ghost use Rattle.std.specs.Option.{option_copied};
 ghost use Rattle.condition_rules.specs.Words.{is_some_and};
 ghost use Rattle.graph_core.specs.Graphs.{edge_of};
-ghost use Rattle.problem.specs.Nodes.{covers};
+ghost use Rattle.condition_rules.specs.Words.{if_written, implies, is_one_text};
+ghost use Rattle.virtuals.specs.Virtuals.{is_virtual};
 ghost use Rattle.condition_rules.specs.Holds.{asked_node, suits, holds};
 ghost use Rattle.problem.specs.Problems.{world_of, asked_by};
-ghost use Rattle.graph_rules.specs.Directives.{keeps_root, keeps_edge, keeps_constraint};
+ghost use Rattle.graph_rules.specs.Directives.{keeps_root, answers, keeps_edge, keeps_constraint};
 ghost use Rattle.graph_rules.specs.Directives.{keeps_conflict, keeps_requirement, has_choice};
 
+use crate::built::among;
 use condition_rules::{Paths, asked_node, holds, suits};
-use graph_core::{Kinds, Node};
+use graph_core::{Edge, Node};
 use problem::{Explored, Problem, applies, asked_by, covers};
 use recipe_data::{ConflictRow, DependRow, RequireRow};
 use spec_grammar::Spec;
@@ -34,12 +36,37 @@ pub fn keeps_root(
     }
 }
 
-fn has_edge(graph: &Explored, node: &Node, child: &Node, kinds: Kinds) -> bool
+fn names(problem: &Problem, edge: &Edge, name: &str) -> bool
+    ensures { result ≡ implies (is_virtual problem.now.recipes name.now)
+        (is_one_text edge.now.virtuals name.now) }
+{
+    let world = problem.world();
+    !world.is_virtual(name) || among(edge.virtuals.values(), name)
+}
+
+/// Whether an edge names the virtual that a row asks for, if it asks for one.
+fn names_asked(problem: &Problem, edge: &Edge, row: &DependRow) -> bool
+    ensures { result ≡ if_written row.now.part.name (λ name.
+        implies (is_virtual problem.now.recipes name) (is_one_text edge.now.virtuals name)) }
+{
+    match &row.part.name {
+        Some(name) => names(problem, edge, name.as_str()),
+        None => true,
+    }
+}
+
+fn answers(problem: &Problem, row: &DependRow, edge: &Edge) -> bool
+    ensures { result ≡ answers problem.now row.now edge.now }
+{
+    covers(edge.kinds, row.kinds) && names_asked(problem, edge, row)
+}
+
+fn has_edge(problem: &Problem, graph: &Explored, node: &Node, child: &Node, row: &DependRow) -> bool
     ensures { result ≡ is_some_and (edge_of graph.now node.now.name child.now.name)
-        (λ e. covers e.kinds kinds) }
+        (answers problem.now row.now) }
 {
     match graph.graph().edge(node.name.as_str(), child.name.as_str()) {
-        Some(edge) => covers(edge.kinds, kinds),
+        Some(edge) => answers(problem, row, edge),
         None => false,
     }
 }
@@ -47,15 +74,16 @@ fn has_edge(graph: &Explored, node: &Node, child: &Node, kinds: Kinds) -> bool
 fn has_asked_edge(problem: &Problem, graph: &Explored, node: &Node, row: &DependRow) -> bool
     ensures { result ≡ is_some_and (asked_by problem.now graph.now row.now)
         (λ child. is_some_and (edge_of graph.now node.now.name child.name)
-        (λ e. covers e.kinds row.now.kinds)) }
+        (answers problem.now row.now)) }
 {
     match asked_by(problem, graph, row) {
-        Some(child) => has_edge(graph, node, child, row.kinds),
+        Some(child) => has_edge(problem, graph, node, child, row),
         None => false,
     }
 }
 
-/// Where the directive holds, an edge with all its kinds goes to the node that it asks for.
+/// Where the directive holds, an edge with all its kinds, which names the virtual that it asks for,
+/// goes to the node that it asks for.
 #[tactic(auto, unfolding(graph_rules::specs::Directives::keeps_edge))]
 pub fn keeps_edge(
     alloc: Global,

@@ -1,15 +1,18 @@
 //! The edges of a node to build.
-ghost use Rattle.std.specs.Prelude.{◌≡◌, IfOk, filter};
-ghost use Rattle.std.specs.List.{list_all};
+ghost use Rattle.std.specs.Prelude.{◌≡◌, ◌&&◌, IfOk, filter};
+ghost use Rattle.std.specs.List.{list_all, list_any};
 ghost use Rattle.std.specs.Str.{bytes_eq};
 ghost use Rattle.condition_rules.specs.Words.{is_some_and};
 ghost use Rattle.problem.specs.Nodes.{has_kind};
 ghost use Rattle.problem.specs.Problems.{asked_by};
-ghost use Rattle.graph_rules.specs.Built.{asks, asked_kinds, is_asked, keeps_extra_edge};
+ghost use Rattle.virtuals.specs.Virtuals.{is_virtual};
+ghost use Rattle.graph_rules.specs.Built.{asks, asked_kinds, is_asked, is_asked_virtual};
+ghost use Rattle.graph_rules.specs.Built.{keeps_extra_edge, names_virtual};
 ghost use Rattle.rule_checks.specs.Kinds.{joined};
 
 use condition_rules::Paths;
 use graph_core::{Edge, Kinds, Node};
+use plain_data::Word;
 use problem::{Explored, Problem, applies, asked_by, covers, depends_at};
 use recipe_data::DependRow;
 use std::alloc::{AllocError, Global};
@@ -24,7 +27,8 @@ fn is_asked_child(problem: &Problem, graph: &Explored, child: &str, row: &Depend
     }
 }
 
-fn asks(
+/// The row holds at a node and asks for this child.
+pub fn asks(
     alloc: Global,
     problem: &Problem,
     graph: &Explored,
@@ -82,7 +86,100 @@ fn has_kind(kinds: Kinds) -> bool
     kinds.build || kinds.link || kinds.run
 }
 
-/// Whether rows ask for all kinds of an edge, which has one at least.
+fn names(row: &DependRow, name: &str) -> bool
+    ensures { result ≡ is_some_and row.now.part.name (bytes_eq name.now) }
+{
+    match &row.part.name {
+        Some(asked) => name == asked.as_str(),
+        None => false,
+    }
+}
+
+fn names_virtual(problem: &Problem, name: &Word, row: &DependRow) -> bool
+    ensures { result ≡ names_virtual problem.now name.now row.now }
+{
+    let world = problem.world();
+    world.is_virtual(name.as_str()) && names(row, name.as_str())
+}
+
+/// Whether a row asks for a virtual, holds at a node and asks for a child.
+fn asks_by(
+    alloc: Global,
+    problem: &Problem,
+    graph: &Explored,
+    node: &Node,
+    child: &str,
+    name: &Word,
+    row: &DependRow,
+) -> Result<bool, AllocError>
+    ensures { IfOk result (λ answer. answer ≡ (names_virtual problem.now name.now row.now
+        && asks problem.now graph.now node.now child.now row.now)) }
+{
+    if !names_virtual(problem, name, row) {
+        return Ok(false);
+    }
+    asks(alloc, problem, graph, node, child, row)
+}
+
+/// Whether some row does so.
+fn some_asks(
+    alloc: Global,
+    problem: &Problem,
+    graph: &Explored,
+    node: &Node,
+    child: &str,
+    name: &Word,
+    rows: &[DependRow],
+) -> Result<bool, AllocError>
+    ensures { IfOk result (λ answer. answer
+        ≡ list_any (λ row. names_virtual problem.now name.now row
+        && asks problem.now graph.now node.now child.now row) rows.now) }
+{
+    for row in rows {
+        if asks_by(alloc, problem, graph, node, child, name, row)? {
+            return Ok(true);
+        }
+    }
+    Ok(false)
+}
+
+/// Whether some row of a node asks for a virtual, of which the child is the provider.
+fn is_asked_virtual(
+    alloc: Global,
+    problem: &Problem,
+    graph: &Explored,
+    node: &Node,
+    child: &str,
+    name: &Word,
+) -> Result<bool, AllocError>
+    ensures { IfOk result (λ answer. answer ≡ is_asked_virtual problem.now graph.now node.now
+        child.now name.now) }
+{
+    let rows = depends_at(problem, node.name.as_str());
+    some_asks(alloc, problem, graph, node, child, name, rows)
+}
+
+/// Whether that is so of each of these virtuals.
+fn asks_each(
+    alloc: Global,
+    problem: &Problem,
+    graph: &Explored,
+    node: &Node,
+    child: &str,
+    virtuals: &[Word],
+) -> Result<bool, AllocError>
+    ensures { IfOk result (λ answer. answer
+        ≡ list_all (is_asked_virtual problem.now graph.now node.now child.now) virtuals.now) }
+{
+    for name in virtuals {
+        if !is_asked_virtual(alloc, problem, graph, node, child, name)? {
+            return Ok(false);
+        }
+    }
+    Ok(true)
+}
+
+/// Whether rows ask for all kinds of an edge, which has one at least, and for all its virtuals.
 fn is_asked(
     alloc: Global,
     problem: &Problem,
@@ -96,8 +193,12 @@ fn is_asked(
         return Ok(false);
     }
     let rows = depends_at(problem, node.name.as_str());
-    let kinds = asked_kinds(alloc, problem, graph, node, edge.child.as_str(), rows)?;
-    Ok(covers(kinds, edge.kinds))
+    let child = edge.child.as_str();
+    let kinds = asked_kinds(alloc, problem, graph, node, child, rows)?;
+    Ok(
+        covers(kinds, edge.kinds)
+            && asks_each(alloc, problem, graph, node, child, edge.virtuals.values())?,
+    )
 }
 
 /// Whether that is so of each edge.
@@ -119,7 +220,7 @@ fn all_asked(
     Ok(true)
 }
 
-/// Each edge, and each kind on it, is asked for.
+/// Each edge, each kind on it and each virtual that it names is asked for.
 #[tactic(auto, unfolding(graph_rules::specs::Built::keeps_extra_edge))]
 pub fn keeps_extra_edge(
     alloc: Global,

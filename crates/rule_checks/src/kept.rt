@@ -9,16 +9,18 @@ ghost use Rattle.problem.specs.Nodes.{is_installed};
 ghost use Rattle.graph_core.specs.declared.node.Origin.TheVariants.{External, Installed};
 ghost use Rattle.rule_checks.specs.Records.{keeps_record};
 ghost use Rattle.problem.specs.Problems.{package_entry_of, externals_in, record_at};
-ghost use Rattle.graph_rules.specs.Kept.{same_attributes, external_node, has_kinds, keeps_child};
+ghost use Rattle.graph_core.specs.Graphs.{provider_of};
+ghost use Rattle.graph_rules.specs.Kept.{same_attributes, external_node, has_kinds, is_recorded, are_provided, keeps_child};
 ghost use Rattle.graph_rules.specs.Kept.{is_child, keeps_origin, keeps_kept};
 
 use crate::external::external_node;
 use crate::same::{same_attributes, same_installed};
+use crate::variants::same_names;
 use condition_rules::Paths;
 use graph_core::{Edge, Kinds, Node, Origin};
 use plain_data::Word;
 use problem::{Explored, Problem, covers, entry_of};
-use reuse_db::Record;
+use reuse_db::{Dependency, Record};
 use site_settings::ExternalEntry;
 use spec_hash::Hash;
 use std::alloc::{AllocError, Global};
@@ -110,23 +112,53 @@ fn has_kinds(kinds: Kinds, edge: &Edge) -> bool
     covers(edge.kinds, kept) && covers(kept, edge.kinds)
 }
 
-fn is_joined(graph: &Explored, parent: &str, child: &str, kinds: Kinds) -> bool
-    ensures { result ≡ is_some_and (edge_of graph.now parent.now child.now) (has_kinds kinds) }
+/// Whether an edge is as a dependency records it.
+fn is_recorded(dependency: &Dependency, edge: &Edge) -> bool
+    ensures { result ≡ is_recorded dependency.now edge.now }
+{
+    has_kinds(dependency.kinds, edge)
+        && same_names(edge.virtuals.values(), dependency.virtuals.values())
+}
+
+fn is_joined(graph: &Explored, parent: &str, child: &str, dependency: &Dependency) -> bool
+    ensures { result ≡ is_some_and (edge_of graph.now parent.now child.now)
+        (is_recorded dependency.now) }
 {
     match graph.graph().edge(parent, child) {
-        Some(edge) => has_kinds(kinds, edge),
+        Some(edge) => is_recorded(dependency, edge),
         None => false,
     }
 }
 
-/// Whether an installed node has the edge to a child of its record, which is a node.
-fn keeps_child(problem: &Problem, graph: &Explored, name: &str, dependency: &(Hash, Kinds)) -> bool
+fn is_provider(graph: &Explored, virtual_name: &str, name: &str) -> bool
+    ensures { result ≡ is_some_and (provider_of graph.now virtual_name.now)
+        (λ p. bytes_eq p name.now) }
+{
+    match graph.graph().provider_of(virtual_name) {
+        Some(provider) => provider == name,
+        None => false,
+    }
+}
+
+/// Whether a package is the provider of each of these virtuals.
+fn are_provided(graph: &Explored, name: &str, virtuals: &[Word]) -> bool
+    ensures { result ≡ are_provided graph.now name.now virtuals.now }
+{
+    virtuals
+        .iter()
+        .all(|wanted| is_provider(graph, wanted.as_str(), name))
+}
+
+/// Whether an installed node has the edge to a child of its record, which is a node and provides
+/// what is recorded.
+fn keeps_child(problem: &Problem, graph: &Explored, name: &str, dependency: &Dependency) -> bool
     ensures { result ≡ keeps_child problem.now graph.now name.now dependency.now }
 {
-    match record_at(problem, &dependency.0) {
+    match record_at(problem, &dependency.hash) {
         Some(child) => {
-            is_there(graph, child.name.as_str(), &dependency.0)
-                && is_joined(graph, name, child.name.as_str(), dependency.1)
+            is_there(graph, child.name.as_str(), &dependency.hash)
+                && is_joined(graph, name, child.name.as_str(), dependency)
+                && are_provided(graph, child.name.as_str(), dependency.virtuals.values())
         }
         None => false,
     }
@@ -138,28 +170,21 @@ fn is_kept(kinds: Kinds) -> bool
     kinds.link || kinds.run
 }
 
-fn keeps_each(
-    problem: &Problem,
-    graph: &Explored,
-    name: &str,
-    dependencies: &[(Hash, Kinds)],
-) -> bool
-    ensures { result ≡ list_all (λ d. implies (d.1.link || d.1.run)
+fn keeps_each(problem: &Problem, graph: &Explored, name: &str, dependencies: &[Dependency]) -> bool
+    ensures { result ≡ list_all (λ d. implies (d.kinds.link || d.kinds.run)
         (keeps_child problem.now graph.now name.now d)) dependencies.now }
 {
-    dependencies
-        .iter()
-        .all(|d| !is_kept(d.1) || keeps_child(problem, graph, name, d))
+    dependencies.iter().all(|d| !is_kept(d.kinds) || keeps_child(problem, graph, name, d))
 }
 
 fn keeps_children(
     problem: &Problem,
     graph: &Explored,
     name: &str,
-    dependencies: &[(Hash, Kinds)],
+    dependencies: &[Dependency],
 ) -> bool
     ensures { result ≡ list_all (keeps_child problem.now graph.now name.now)
-        (filter (λ d. d.1.link || d.1.run) dependencies.now) }
+        (filter (λ d. d.kinds.link || d.kinds.run) dependencies.now) }
 {
     keeps_each(problem, graph, name, dependencies)
 }
@@ -174,14 +199,14 @@ fn is_named(problem: &Problem, hash: &Hash, name: &Word) -> bool
     }
 }
 
-fn some_named(problem: &Problem, dependencies: &[(Hash, Kinds)], name: &Word) -> bool
-    ensures { result ≡ list_any (λ d. (d.1.link || d.1.run)
-        && is_some_and (record_at problem.now d.0) (λ child. bytes_eq child.name name.now))
+fn some_named(problem: &Problem, dependencies: &[Dependency], name: &Word) -> bool
+    ensures { result ≡ list_any (λ d. (d.kinds.link || d.kinds.run)
+        && is_some_and (record_at problem.now d.hash) (λ child. bytes_eq child.name name.now))
         dependencies.now }
 {
     dependencies
         .iter()
-        .any(|d| is_kept(d.1) && is_named(problem, &d.0, name))
+        .any(|d| is_kept(d.kinds) && is_named(problem, &d.hash, name))
 }
 
 fn is_child(problem: &Problem, entry: &Record, edge: &Edge) -> bool

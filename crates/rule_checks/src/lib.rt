@@ -19,8 +19,8 @@ mod whole;
 
 pub use built::{keeps_buildable, keeps_compiler, keeps_machine, keeps_version};
 pub use directives::{keeps_conflict, keeps_constraint, keeps_edge, keeps_requirement, keeps_root};
-pub use edges::keeps_extra_edge;
+pub use edges::{asks, keeps_extra_edge};
 pub use external::external_node;
 pub use kept::keeps_kept;
 pub use variants::keeps_variant;
-pub use whole::{keeps_no_cycle, keeps_provider, keeps_reachable, keeps_used};
+pub use whole::{keeps_no_cycle, keeps_provider, keeps_reachable, keeps_together, keeps_used};

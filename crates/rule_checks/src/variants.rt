@@ -51,7 +51,7 @@ fn governed(
     Ok(ValueSet::from_words(names))
 }
 
-fn same_names(a: &[Word], b: &[Word]) -> bool
+pub(crate) fn same_names(a: &[Word], b: &[Word]) -> bool
     ensures { result ≡ pointwise bytes_eq a.now b.now }
 {
     a == b

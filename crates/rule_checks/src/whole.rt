@@ -1,20 +1,21 @@
 //! The rules of providers, and of the graph as a whole.
-ghost use Rattle.std.specs.Prelude.{◌≡◌, ◌&&◌, ◌||◌, IfOk, None, is_some};
-ghost use Rattle.std.specs.List.{list_any};
+ghost use Rattle.std.specs.Prelude.{◌≡◌, ◌||◌, IfOk, None};
+ghost use Rattle.std.specs.List.{list_any, list_all};
 ghost use Rattle.std.specs.Str.{bytes_eq};
-ghost use Rattle.condition_rules.specs.Words.{is_some_and};
-ghost use Rattle.graph_core.specs.Graphs.{edge_of};
+ghost use Rattle.condition_rules.specs.Words.{implies, is_some_and};
 ghost use Rattle.graph_core.specs.Paths.{reaches_in};
-ghost use Rattle.virtuals.specs.Virtuals.{is_virtual};
-ghost use Rattle.problem.specs.Problems.{world_of, applies};
+ghost use Rattle.problem.specs.Problems.{world_of};
 ghost use Rattle.graph_rules.specs.Whole.{keeps_provider, keeps_used, keeps_no_cycle};
 ghost use Rattle.graph_rules.specs.Whole.{keeps_reachable, uses, needs};
+ghost use Rattle.graph_rules.specs.Whole.{has_no_other, provides_by, provides_together};
+ghost use Rattle.graph_rules.specs.Whole.{keeps_row_together, keeps_together};
 
-use condition_rules::{Paths, provides};
+use crate::built::among;
+use condition_rules::{Paths, provides, row_provides};
 use graph_core::Node;
 use plain_data::Word;
-use problem::{Explored, Problem, applies, depends_at, is_built};
-use recipe_data::DependRow;
+use problem::{Explored, Problem, provides_at};
+use recipe_data::ProvideRow;
 use spec_grammar::Spec;
 use std::alloc::{AllocError, Global};
 
@@ -30,105 +31,98 @@ pub fn keeps_provider(problem: &Problem, graph: &Explored, p: &(Word, Word)) -> 
     }
 }
 
-fn is_named(row: &DependRow, name: &str) -> bool
-    ensures { result ≡ is_some_and row.now.part.name (bytes_eq name.now) }
+/// Whether a node has an edge to the package that names the virtual.
+fn uses(graph: &Explored, p: &(Word, Word), node: &Node) -> bool
+    ensures { result ≡ uses graph.now p.now node.now }
 {
-    match &row.part.name {
-        Some(asked) => name == asked.as_str(),
+    match graph.graph().edge(node.name.as_str(), p.1.as_str()) {
+        Some(edge) => among(edge.virtuals.values(), p.0.as_str()),
         None => false,
     }
 }
 
-/// Whether a row that applies asks for this name.
-fn some_asks(
-    alloc: Global,
-    problem: &Problem,
-    graph: &Explored,
-    node: &Node,
-    name: &str,
-    rows: &[DependRow],
-) -> Result<bool, AllocError>
-    ensures { IfOk result (λ answer. answer
-        ≡ list_any (λ row. is_some_and row.part.name (bytes_eq name.now)
-        && applies problem.now graph.now row.when node.now) rows.now) }
+/// Some node has an edge to the provider that names the virtual.
+#[tactic(auto, unfolding(graph_rules::specs::Whole::keeps_used))]
+pub fn keeps_used(graph: &Explored, p: &(Word, Word)) -> bool
+    ensures { result ≡ keeps_used graph.now p.now }
 {
-    for row in rows {
-        if is_named(row, name) && applies(alloc, problem, graph, &row.when, node)? {
-            return Ok(true);
-        }
+    graph
+        .graph()
+        .nodes()
+        .iter()
+        .any(|node| uses(graph, p, node))
+}
+
+/// Whether a virtual has no provider but this package.
+fn has_no_other(graph: &Explored, name: &str, virtual_name: &Word) -> bool
+    ensures { result ≡ has_no_other graph.now name.now virtual_name.now }
+{
+    match graph.graph().provider_of(virtual_name.as_str()) {
+        Some(other) => other == name,
+        None => true,
     }
-    Ok(false)
 }
 
-fn has_edge(graph: &Explored, parent: &str, child: &str) -> bool
-    ensures { result ≡ is_some (edge_of graph.now parent.now child.now) }
-{
-    graph.graph().edge(parent, child).is_some()
-}
-
-/// Whether a built node with an edge to the package asks for the virtual.
-fn uses(
-    alloc: Global,
-    problem: &Problem,
-    graph: &Explored,
-    p: &(Word, Word),
-    node: &Node,
-) -> Result<bool, AllocError>
-    ensures { IfOk result (λ answer. answer ≡ uses problem.now graph.now p.now node.now) }
-{
-    if !(is_built(node) && has_edge(graph, node.name.as_str(), p.1.as_str())) {
-        return Ok(false);
-    }
-    some_asks(
-        alloc,
-        problem,
-        graph,
-        node,
-        p.0.as_str(),
-        depends_at(problem, node.name.as_str()),
-    )
-}
-
-/// Whether one of the nodes does.
-fn some_uses(
-    alloc: Global,
-    problem: &Problem,
-    graph: &Explored,
-    p: &(Word, Word),
-    nodes: &[Node],
-) -> Result<bool, AllocError>
-    ensures { IfOk result (λ answer. answer
-        ≡ list_any (uses problem.now graph.now p.now) nodes.now) }
-{
-    for node in nodes {
-        if uses(alloc, problem, graph, p, node)? {
-            return Ok(true);
-        }
-    }
-    Ok(false)
-}
-
-fn names_virtual(problem: &Problem, name: &str) -> bool
-    ensures { result ≡ is_virtual problem.now.recipes name.now }
+/// Whether a row's condition holds at the provider, and it provides the virtual.
+fn provides_by(problem: &Problem, graph: &Explored, p: &(Word, Word), row: &ProvideRow) -> bool
+    ensures { result ≡ provides_by problem.now graph.now p.now row.now }
 {
     let world = problem.world();
-    world.is_virtual(name)
+    match graph.graph().node(p.1.as_str()) {
+        Some(node) => row_provides(&world, node, p.0.as_str(), None, row),
+        None => false,
+    }
 }
 
-/// Some built node has an edge to the provider and a `depends_on` on the virtual that holds.
-#[tactic(auto, unfolding(graph_rules::specs::Whole::keeps_used))]
-pub fn keeps_used(
-    alloc: Global,
+/// Whether each name of the row's directive has no provider but this package.
+fn provides_together(problem: &Problem, graph: &Explored, name: &str, row: &ProvideRow) -> bool
+    ensures { result ≡ provides_together problem.now graph.now name.now row.now }
+{
+    provides_at(problem, name).iter().all(|other| other.number != row.number
+        || has_no_other(graph, name, &other.name))
+}
+
+/// Where the virtual is provided by the row, so is each name of its directive that is provided.
+fn keeps_row_together(
     problem: &Problem,
     graph: &Explored,
     p: &(Word, Word),
-) -> Result<bool, AllocError>
-    ensures { IfOk result (λ answer. answer ≡ keeps_used problem.now graph.now p.now) }
+    row: &ProvideRow,
+) -> bool
+    ensures { result ≡ keeps_row_together problem.now graph.now p.now row.now }
 {
-    if !names_virtual(problem, p.0.as_str()) {
-        return Ok(false);
-    }
-    some_uses(alloc, problem, graph, p, graph.graph().nodes())
+    !provides_by(problem, graph, p, row) || provides_together(problem, graph, p.1.as_str(), row)
+}
+
+/// So it is where the row names the virtual.
+fn keeps_named_row(problem: &Problem, graph: &Explored, p: &(Word, Word), row: &ProvideRow) -> bool
+    ensures { result ≡ implies (bytes_eq row.now.name p.now.0)
+        (keeps_row_together problem.now graph.now p.now row.now) }
+{
+    row.name.as_str() != p.0.as_str() || keeps_row_together(problem, graph, p, row)
+}
+
+fn keeps_named_rows(
+    problem: &Problem,
+    graph: &Explored,
+    p: &(Word, Word),
+    rows: &[ProvideRow],
+) -> bool
+    ensures { result ≡ list_all (λ row. implies (bytes_eq row.name p.now.0)
+        (keeps_row_together problem.now graph.now p.now row)) rows.now }
+{
+    rows.iter()
+        .all(|row| keeps_named_row(problem, graph, p, row))
+}
+
+/// Where the settings ask for it, a virtual's provider by a directive is the provider of each other
+/// name of the directive that has one.
+#[tactic(auto, unfolding(graph_rules::specs::Whole::keeps_together))]
+pub fn keeps_together(problem: &Problem, graph: &Explored, p: &(Word, Word)) -> bool
+    ensures { result ≡ keeps_together problem.now graph.now p.now }
+{
+    let is_asked = problem.settings().provided_together;
+    !is_asked || keeps_named_rows(problem, graph, p, provides_at(problem, p.1.as_str()))
 }
 
 /// No path leads from the node to itself.

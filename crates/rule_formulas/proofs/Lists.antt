@@ -27,7 +27,8 @@ use Rattle.graph_formulas.specs.Directives.{choice_rule}
 use Rattle.word_formulas.proofs.Steps.{both-same}
 use Rattle.rule_formulas.specs.Terms.{is_asked, choice_said}
 
-any-offered : (child : Text) (cs : Choices Text)
+-- a name that is one of the choices
+pub any-offered : (child : Text) (cs : Choices Text)
     → list_any (λ (c : Text × Lit). bytes_eq child c.0) cs ≡ list_any (bytes_eq child) (choice_values cs)
 any-offered child [] = refl
 any-offered child (c ∷ cs) = rw (any-offered child cs) refl

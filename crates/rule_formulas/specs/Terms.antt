@@ -1,7 +1,7 @@
 -- Formulas of rules over the conditions of a problem.
 use Rattle.std.specs.Prelude.{ℕ, Bool, true, List, [], ◌∷◌, Option, if◌then◌else◌}
 use Rattle.std.specs.Str.{bytes_eq}
-use Rattle.clause_formulas.specs.Statements.{Statement, any_statement, opposite}
+use Rattle.clause_formulas.specs.Statements.{Statement, never, any_statement, opposite}
 use Rattle.clause_formulas.specs.Rules.{Proposition}
 use Rattle.spec_grammar.specs.declared.part.Spec.{Spec}
 use Rattle.graph_core.specs.Graphs.{Text}
@@ -30,6 +30,10 @@ use Rattle.rule_formulas.specs.declared.extra_edges.EdgeKind.TheVariants as kind
 -- the formula of a rule that speaks of no path but by conditions
 abbrev pub plain_term : Table → (Text → Condition → Statement) → Proposition Term → Statement
 plain_term table condition rule = term_formula no_paths condition table rule
+
+-- for a rule that speaks of no condition
+abbrev pub no_conditions : Text → Condition → Statement
+no_conditions name when = never
 
 -- ---- kinds of edges
 

@@ -6,9 +6,11 @@ ghost use Rattle.problem.specs.Problems.{depends_at};
 ghost use Rattle.graph_formulas.specs.Lists.{some};
 ghost use Rattle.graph_formulas.specs.Words.{names_for};
 ghost use Rattle.graph_formulas.specs.Edges.{asks_rule, may_ask, kind_rule, extra_edge_rule, extra_edges_rule};
+ghost use Rattle.graph_formulas.specs.Laws.{virtuals_on};
 ghost use Rattle.literal_table.specs.Tables.{children_of};
 ghost use Rattle.rule_formulas.specs.Terms.{plain_term, kinds_of, has_of, is_asked};
 
+use crate::extra_virtuals::virtuals_formula;
 use crate::loops::{each_where, some_where};
 use clause_formulas::Formula;
 use clause_store::Lit;
@@ -62,10 +64,11 @@ fn has(kind: EdgeKind, kinds: &Kinds) -> bool
     }
 }
 
-fn may_provide(packages: &[(Word, Lit)], child: &str) -> bool
-    ensures { result ≡ list_any (λ choice. bytes_eq child.now choice.0) packages.now }
+/// The name is one of these choices.
+pub(crate) fn offers(choices: &[(Word, Lit)], name: &str) -> bool
+    ensures { result ≡ list_any (λ choice. bytes_eq name.now choice.0) choices.now }
 {
-    packages.iter().any(|choice| child == choice.0.as_str())
+    choices.iter().any(|choice| name == choice.0.as_str())
 }
 
 /// The name is that of the child, or a virtual that it may provide.
@@ -73,7 +76,7 @@ fn is_asked(world: &World, table: &LiteralTable, child: &str, asked: &Word) -> b
     ensures { result ≡ is_asked world.now (names_for table.now) child.now asked.now }
 {
     if world.is_virtual(asked.as_str()) {
-        may_provide(table.packages(asked.as_str()), child)
+        offers(table.packages(asked.as_str()), child)
     } else {
         asked.as_str() == child
     }
@@ -162,7 +165,7 @@ fn kind_formula<C: MetConditions>(
     Formula::implies(alloc, edge, asked)
 }
 
-/// The edge has no kind that none asks for.
+/// The edge has no kind and no virtual that none asks for.
 fn extra_edge_formula<C: MetConditions>(
     alloc: Global,
     problem: &Problem,
@@ -172,7 +175,8 @@ fn extra_edge_formula<C: MetConditions>(
     child: &str,
 ) -> Result<Formula, AllocError>
     ensures { IfOk result (λ formula. formula ≡ plain_term table.now (C.condition_of conditions.now)
-        (extra_edge_rule problem.now (names_for table.now) name.now child.now)) }
+        (extra_edge_rule problem.now (names_for table.now) (virtuals_on table.now name.now child.now)
+        name.now child.now)) }
 {
     let build = kind_formula(
         alloc,
@@ -202,7 +206,9 @@ fn extra_edge_formula<C: MetConditions>(
         child,
     )?;
     let most = Formula::both(alloc, build, link)?;
-    Formula::both(alloc, most, run)
+    let kinds = Formula::both(alloc, most, run)?;
+    let virtuals = virtuals_formula(alloc, problem, table, conditions, name, child)?;
+    Formula::both(alloc, kinds, virtuals)
 }
 
 fn leaves(edge: &EdgeLits, name: &str) -> bool
@@ -211,7 +217,7 @@ fn leaves(edge: &EdgeLits, name: &str) -> bool
     edge.parent.as_str() == name
 }
 
-/// No edge from the name has a kind that none asks for.
+/// No edge from the name has a kind or a virtual that none asks for.
 pub fn extra_edges_formula<C: MetConditions>(
     alloc: Global,
     problem: &Problem,
@@ -220,7 +226,7 @@ pub fn extra_edges_formula<C: MetConditions>(
     name: &str,
 ) -> Result<Formula, AllocError>
     ensures { IfOk result (λ formula. formula ≡ plain_term table.now (C.condition_of conditions.now)
-        (extra_edges_rule problem.now (names_for table.now) (children_of table.now name.now) name.now)) }
+        (extra_edges_rule problem.now (names_for table.now) (virtuals_on table.now name.now) (children_of table.now name.now) name.now)) }
 {
     each_where(
         alloc,

@@ -9,7 +9,7 @@ use Rattle.graph_core.specs.declared.node.Node.{Node}
 use Rattle.problem.specs.Problems.{Problem}
 use Rattle.graph_rules.specs.Valid.{keeps, all_rules}
 use Rattle.graph_rules.specs.declared.rule.Rule.{Rule}
-use Rattle.rule_rows.specs.Build.{named, spec, on, at, always, version, to_build_and_link, to_link, recipe, compiler, built, is_on, edge, with_roots}
+use Rattle.rule_rows.specs.Build.{named, spec, on, at, always, version, to_build_and_link, to_link, recipe, compiler, built, is_on, edge, edge_naming, with_roots}
 use Rattle.rule_rows.specs.Rows.{hdf5, mpi_of, realistic, realistic_graph, one_of_two, beside}
 
 -- the rules that the graph breaks, in their order
@@ -55,13 +55,13 @@ prefix_of_a_built_node = with_nodes hdf5_node (record zlib_node { prefix = Some 
 abbrev pub kind_left_out : Content
 kind_left_out = record realistic_graph {
   edges =
-      edge (codes "hdf5") (codes "mpich") to_build_and_link ∷ edge (codes "hdf5") (codes "zlib") to_link ∷ [];
+      edge_naming (codes "mpi" ∷ []) (codes "hdf5") (codes "mpich") to_build_and_link ∷ edge (codes "hdf5") (codes "zlib") to_link ∷ [];
 }
 
 abbrev pub kind_not_asked_for : Content
 kind_not_asked_for = record realistic_graph {
   edges =
-      edge (codes "hdf5") (codes "mpich") to_build_and_link
+      edge_naming (codes "mpi" ∷ []) (codes "hdf5") (codes "mpich") to_build_and_link
       ∷ edge (codes "hdf5") (codes "zlib") (record { build = true; link = true; run = true }) ∷ [];
 }
 

@@ -18,6 +18,7 @@ use Rattle.recipe_data.specs.declared.recipe.VariantRow.{VariantRow}
 use Rattle.recipe_data.specs.declared.recipe.DependRow.{DependRow}
 use Rattle.problem.specs.Problems.{Problem}
 use Rattle.site_settings.specs.declared.settings.Settings.{Settings}
+use Rattle.reuse_db.specs.declared.record.Dependency.{Dependency}
 use Rattle.reuse_db.specs.declared.record.Record.{Record}
 
 -- ---- specs
@@ -94,6 +95,7 @@ standard = record {
   targets = record { name = codes "x86_64"; parents = [] } ∷ [];
   compilers = record { compiler = compiler (codes "12.3.0"); os = None; targets = None } ∷ [];
   providers = [];
+  provided_together = false;
   packages = [];
 }
 
@@ -125,7 +127,11 @@ abbrev pub is_off : Text → (Text × List Text)
 is_off v = (v, codes "false" ∷ [])
 
 abbrev pub edge : Text → Text → Kinds → Edge
-edge parent child kinds = record { parent = parent; child = child; kinds = kinds }
+edge parent child kinds = record { parent = parent; child = child; kinds = kinds; virtuals = [] }
+
+-- an edge that names virtuals
+abbrev pub edge_naming : List Text → Text → Text → Kinds → Edge
+edge_naming virtuals parent child kinds = record (edge parent child kinds) { virtuals = virtuals }
 
 abbrev pub graph : List Node → List Edge → Content
 graph nodes edges = record { nodes = nodes; edges = edges; providers = [] }
@@ -133,8 +139,12 @@ graph nodes edges = record { nodes = nodes; edges = edges; providers = [] }
 abbrev pub installed : Text → Text → Text → Node
 installed hash name version = record (built name version []) { origin = Installed hash }
 
+-- what a record needs, and what that provides to it
+abbrev pub dependency : Text → Kinds → List Text → Dependency
+dependency hash kinds virtuals = record { hash = hash; kinds = kinds; virtuals = virtuals }
+
 -- a record without variants
-abbrev pub kept : Text → Text → Text → List (Text × Kinds) → Record
+abbrev pub kept : Text → Text → Text → List Dependency → Record
 kept hash name version dependencies = record {
   hash = hash;
   name = name;

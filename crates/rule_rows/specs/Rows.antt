@@ -6,7 +6,7 @@ use Rattle.graph_core.specs.Graphs.{Text, Content}
 use Rattle.graph_core.specs.declared.node.Origin.TheVariants.{External}
 use Rattle.recipe_data.specs.declared.recipe.Recipe.{Recipe}
 use Rattle.problem.specs.Problems.{Problem}
-use Rattle.rule_rows.specs.Build.{named, spec, on, at, always, when, version, flag, to_build_and_link, to_run, depends_on, recipe, compiler, standard, problem, built, is_on, edge, graph, installed, kept}
+use Rattle.rule_rows.specs.Build.{named, spec, on, at, always, when, version, flag, to_build_and_link, to_run, depends_on, recipe, compiler, standard, problem, built, is_on, edge, edge_naming, dependency, graph, installed, kept}
 
 -- the vector with these values at these places, from 1, and 0 elsewhere
 abbrev pub vector_of : List (ℕ × ℕ) → List ℕ
@@ -48,7 +48,9 @@ abbrev pub realistic_graph : Content
 realistic_graph = record {
   nodes = built (codes "hdf5") (codes "1.14.3") (is_on (codes "mpi") ∷ is_on (codes "shared") ∷ [])
       ∷ built (codes "mpich") (codes "4.1.2") [] ∷ built (codes "zlib") (codes "1.3") [] ∷ [];
-  edges = edge (codes "hdf5") (codes "mpich") to_build_and_link ∷ edge (codes "hdf5") (codes "zlib") to_build_and_link ∷ [];
+  edges =
+      edge_naming (codes "mpi" ∷ []) (codes "hdf5") (codes "mpich") to_build_and_link
+      ∷ edge (codes "hdf5") (codes "zlib") to_build_and_link ∷ [];
   providers = (codes "mpi", codes "mpich") ∷ [];
 }
 
@@ -133,7 +135,7 @@ with_run = record (problem
     (record (recipe (codes "t") (version 0 (codes "1") ∷ [])) { depends = depends_on 1 (named (codes "u")) to_run always ∷ [] }
     ∷ recipe (codes "u") (version 0 (codes "2.0") ∷ version 1 (codes "1.0") ∷ []) ∷ [])
     (spec (named (codes "t")) ∷ [])) {
-      database = kept (codes "hu") (codes "u") (codes "1.0") [] ∷ kept (codes "ht") (codes "t") (codes "1") ((codes "hu", to_run) ∷ [])
+      database = kept (codes "hu") (codes "u") (codes "1.0") [] ∷ kept (codes "ht") (codes "t") (codes "1") (dependency (codes "hu") to_run [] ∷ [])
           ∷ [];
     }
 

@@ -7,6 +7,7 @@ ghost use Rattle.graph_rules.specs.declared.rule.Rule.{Rule};
 ghost use Rattle.graph_rules.specs.declared.rule.Verdict.{Verdict};
 ghost use Rattle.rule_rows.specs.Build.{is_on, is_off};
 ghost use Rattle.rule_rows.specs.Rows.{realistic, realistic_graph, old_compiler, old_compiler_graph, one_of_two, one_of_graph, with_installed, installed_graph};
+ghost use Rattle.rule_rows.specs.Together.{apart, together, mixed, both_of_one};
 ghost use Rattle.rule_rows.specs.Broken.{broken_rules, undeclared_version, variant_left_out, variants_out_of_order, value_not_allowed, other_compiler, no_compiler, other_os, prefix_of_a_built_node, kind_left_out, kind_not_asked_for, edge_not_asked_for, node_nobody_needs, provider_that_does_not, newer_root, not_buildable, older_zlib, older_zlib_graph, with_pmi, pmi_nobody_uses, asked_cycle, cycle_of_two, older_zlib_asked, newer_zlib_asked, one_asked};
 
 /// The rules of a node to build, one by one.
@@ -75,8 +76,8 @@ pub fn broken_directives()
 
 /// The rules of providers and of the graph as a whole, one by one.
 ///
-/// No graph breaks `Provider` alone: where a built node uses the virtual, its directive asks for a
-/// provision too, and else `UnusedProvider` is broken besides.
+/// `Provider` is broken alone only where kept nodes alone name the virtual (`broken_names`): where a
+/// built node does, its directive asks for a provision too.
 pub fn broken_wholes()
     ensures provider { broken_rules realistic provider_that_does_not ≡ Rule.Provider
         ∷ Rule.UnusedProvider ∷ [] }
@@ -86,6 +87,11 @@ pub fn broken_wholes()
     ensures unused { broken_rules with_pmi pmi_nobody_uses ≡ Rule.UnusedProvider ∷ [] }
     ensures unused_at { verdict with_pmi pmi_nobody_uses ≡ Verdict.Broken Rule.UnusedProvider
         (codes "pmi") 0 }
+    ensures apart { valid apart mixed ≡ true }
+    ensures together { broken_rules together mixed ≡ Rule.Together ∷ [] }
+    ensures together_at { verdict together mixed ≡ Verdict.Broken Rule.Together
+        (codes "blas") 0 }
+    ensures both_of_one { valid together both_of_one ≡ true }
     ensures cycle { broken_rules asked_cycle cycle_of_two ≡ Rule.Cycle ∷ [] }
     ensures cycle_at { verdict asked_cycle cycle_of_two ≡ Verdict.Broken Rule.Cycle (codes "a") 0 }
     ensures unreachable { broken_rules realistic node_nobody_needs ≡ Rule.Unreachable ∷ [] }

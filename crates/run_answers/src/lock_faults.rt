@@ -56,6 +56,7 @@ pub fn rule_name(rule: Rule) -> &'static str
         Rule::Kept => "Kept",
         Rule::Provider => "Provider",
         Rule::UnusedProvider => "UnusedProvider",
+        Rule::Together => "Together",
         Rule::Cycle => "Cycle",
         Rule::Unreachable => "Unreachable",
     }

@@ -10,7 +10,7 @@ use Rattle.problem.specs.Problems.{Problem}
 use Rattle.run_input.specs.Stages.{Is, Then}
 use Rattle.run_input.specs.Refusal.TheVariants.{BadLock}
 use Rattle.run_input.proofs.StageLaws.{IsOne, one_is, one_then}
-use Rattle.run_task.specs.Locks.{lock_bytes, LockIn, LockAt}
+use Rattle.run_task.specs.Locks.{lock_bytes, LockIn, LockAt, NamedAt, named_lock}
 use Rattle.run_task.specs.Verdicts.{judged, GraphAt, Judges}
 
 -- what holds of reading lock files
@@ -29,13 +29,17 @@ one_in laws bytes (Err a) (Err b) (f, is, other, same) (g, as_well, not, too) =
 one_lock : ReadsOnce → (files : Files) (path : List ℕ) → IsOne (LockAt files path)
 one_lock laws files path = one_then (Is (lock_bytes files path)) LockIn (one_is (lock_bytes files path)) (one_in laws)
 
+one_named : ReadsOnce → (files : Files) (path : List ℕ) (problem : Problem) → IsOne (NamedAt files path problem)
+one_named laws files path problem =
+    one_then (LockAt files path) (λ lock. Is (Ok (named_lock problem lock))) (one_lock laws files path) (λ lock. one_is (Ok (named_lock problem lock)))
+
 -- of a lock file one thing is said at most
 pub one_verdict : ReadsOnce → (files : Files) (path : List ℕ) (problem : Problem) → IsOne (Judges files path problem)
 one_verdict laws files path problem =
-    one_then (LockAt files path) (λ lock. Is (judged problem lock)) (one_lock laws files path) (λ lock. one_is (judged problem lock))
+    one_then (NamedAt files path problem) (λ lock. Is (judged problem lock)) (one_named laws files path problem) (λ lock. one_is (judged problem lock))
 
 -- and of its graph
 pub one_graph : ReadsOnce → (files : Files) (path : List ℕ) (problem : Problem) → IsOne (GraphAt files path problem)
 one_graph laws files path problem =
-    one_then (LockAt files path) (λ lock. Then (Is (judged problem lock)) (λ numbers. Is (Ok lock.graph))) (one_lock laws files path)
+    one_then (NamedAt files path problem) (λ lock. Then (Is (judged problem lock)) (λ numbers. Is (Ok lock.graph))) (one_named laws files path problem)
     (λ lock. one_then (Is (judged problem lock)) (λ numbers. Is (Ok lock.graph)) (one_is (judged problem lock)) (λ numbers. one_is (Ok lock.graph)))

@@ -17,7 +17,7 @@ use Rattle.run_input.specs.Stops.{Gives}
 use Rattle.run_input.specs.Refusal.{Refusal}
 use Rattle.run_input.specs.Refusal.TheVariants as refusals
 use Rattle.run_input.specs.ReadStop.{ReadStop}
-use Rattle.run_task.specs.Locks.{LockAt}
+use Rattle.run_task.specs.Locks.{NamedAt}
 use Rattle.run_task.specs.LockRoots.{are_roots_of}
 use Rattle.run_task.specs.Verdicts.{unless_broken, weighed, judged, GraphAt, HasCosts, IsRight, IsValidLock}
 
@@ -63,14 +63,14 @@ right law problem lock (Ok numbers) formed read = here law problem lock numbers 
 right law problem lock (Err stop) formed read = tt
 
 by_files : (before : Option Files) (path : List ℕ) (problem : Problem) (lock : Lock) (numbers : List ℕ)
-    → IfSome before (λ files. Gives {T = Lock} (Ok lock) (LockAt files path)) → IsRight problem lock numbers
+    → IfSome before (λ files. Gives {T = Lock} (Ok lock) (NamedAt files path problem)) → IsRight problem lock numbers
     → IfSome before (λ files. IsValidLock files path problem numbers)
 by_files None path problem lock numbers at is = tt
 by_files (Some files) path problem lock numbers at is = record { lock = lock; at = at; right = is }
 
 -- the file at the path is such a lock file
 pub valid_lock : (before : Option Files) (path : List ℕ) (problem : Problem) (lock : Lock) (result : Result (List ℕ) ReadStop)
-    → IfSome before (λ files. Gives {T = Lock} (Ok lock) (LockAt files path)) → IfOk result (λ numbers. IsRight problem lock numbers)
+    → IfSome before (λ files. Gives {T = Lock} (Ok lock) (NamedAt files path problem)) → IfOk result (λ numbers. IsRight problem lock numbers)
     → IfOk result (λ numbers. IfSome before (λ files. IsValidLock files path problem numbers))
 valid_lock before path problem lock (Ok numbers) at is = by_files before path problem lock numbers at is
 valid_lock before path problem lock (Err stop) at is = tt
@@ -86,16 +86,16 @@ has_costs problem lock (Err stop) is = tt
 
 -- where it is judged right
 pub graph_read : (before : Option Files) (path : List ℕ) (problem : Problem) (lock : Lock) (numbers : List ℕ)
-    → IfSome before (λ files. Gives {T = Lock} (Ok lock) (LockAt files path)) → Gives {T = List ℕ} (Ok numbers) (Is (judged problem lock))
+    → IfSome before (λ files. Gives {T = Lock} (Ok lock) (NamedAt files path problem)) → Gives {T = List ℕ} (Ok numbers) (Is (judged problem lock))
     → IfSome before (λ files. Gives {T = Content} (Ok lock.graph) (GraphAt files path problem))
 graph_read None path problem lock numbers at is = tt
 graph_read (Some files) path problem lock numbers at is = (lock, at, (numbers, is, refl))
 
 -- where it is refused
 pub graph_stopped : (before : Option Files) (path : List ℕ) (problem : Problem) (lock : Lock) (stop : ReadStop)
-    → IfSome before (λ files. Gives {T = Lock} (Ok lock) (LockAt files path)) → Gives {T = List ℕ} (Err stop) (Is (judged problem lock))
+    → IfSome before (λ files. Gives {T = Lock} (Ok lock) (NamedAt files path problem)) → Gives {T = List ℕ} (Err stop) (Is (judged problem lock))
     → IfSome before (λ files. Gives {T = Content} (Err stop) (GraphAt files path problem))
 graph_stopped None path problem lock stop at is = tt
 graph_stopped (Some files) path problem lock stop at is =
-    then_gives (LockAt files path) (λ lock. Then (Is (judged problem lock)) (λ numbers. Is (Ok lock.graph))) lock (Err stop) at
+    then_gives (NamedAt files path problem) (λ lock. Then (Is (judged problem lock)) (λ numbers. Is (Ok lock.graph))) lock (Err stop) at
     (then_stop (Is (judged problem lock)) (λ numbers. Is (Ok lock.graph)) stop is)

@@ -13,7 +13,7 @@ use Rattle.lockfile.specs.declared.lock.Lock.{Lock}
 use Rattle.run_input.specs.Stages.{Is, Then, ◌>>=◌, check}
 use Rattle.run_input.specs.Refusal.{Refusal}
 use Rattle.run_input.specs.Refusal.TheVariants as refusals
-use Rattle.run_task.specs.Locks.{LockAt}
+use Rattle.run_task.specs.Locks.{NamedAt}
 use Rattle.run_task.specs.LockRoots.{are_roots_of}
 
 -- no rule is broken
@@ -35,7 +35,7 @@ judged problem lock = do
 
 -- what is said of the lock file at the path
 abbrev pub Judges : Files → List ℕ → Problem → Result (List ℕ) Refusal → Type 0
-Judges files path problem = Then (LockAt files path) (λ lock. Is (judged problem lock))
+Judges files path problem = Then (NamedAt files path problem) (λ lock. Is (judged problem lock))
 
 -- a lock file is one of just the roots that are asked for, and its graph is valid and has these costs
 pub record IsRight (problem : Problem) (lock : Lock) (numbers : List ℕ) : Type 0 where
@@ -47,7 +47,7 @@ pub record IsRight (problem : Problem) (lock : Lock) (numbers : List ℕ) : Type
 -- the file at the path is such a lock file
 pub record IsValidLock (files : Files) (path : List ℕ) (problem : Problem) (numbers : List ℕ) : Type 0 where
   pub lock : Lock
-  pub at : LockAt files path (Ok lock)
+  pub at : NamedAt files path problem (Ok lock)
   pub right : IsRight problem lock numbers
 
 -- some valid graph has these costs
@@ -59,4 +59,4 @@ pub record HasCosts (problem : Problem) (numbers : List ℕ) : Type 0 where
 
 -- what is said of the lock file at the path, and then its graph
 abbrev pub GraphAt : Files → List ℕ → Problem → Result Content Refusal → Type 0
-GraphAt files path problem = Then (LockAt files path) (λ lock. Then (Is (judged problem lock)) (λ numbers. Is (Ok lock.graph)))
+GraphAt files path problem = Then (NamedAt files path problem) (λ lock. Then (Is (judged problem lock)) (λ numbers. Is (Ok lock.graph)))

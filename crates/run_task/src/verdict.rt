@@ -10,7 +10,7 @@ ghost use Rattle.run_input.specs.Stops.{Gives, EndsInReadFault};
 ghost use Rattle.run_input.specs.Bytes.{FailsAt};
 ghost use Rattle.run_task.specs.Verdicts.{unless_broken, weighed, judged, GraphAt, HasCosts, Judges, IsRight, IsValidLock};
 
-use crate::lock::read_lock_at;
+use crate::lock::read_named_lock;
 use crate::roots::are_roots_of;
 use crate::whole::whole;
 use cost_vector::vector;
@@ -92,7 +92,7 @@ pub fn read_verdict<D: Desk>(
     ensures path { FailsAt path.now result }
     ensures only_reads { OnlyReads D.files D.faults D.put_faults desk.old desk.new result }
 {
-    let lock = read_lock_at(alloc, desk, path)?;
+    let lock = read_named_lock(alloc, desk, path, problem)?;
     let said = judge_lock(alloc, problem, &lock);
     drop(lock);
     said
@@ -115,7 +115,7 @@ pub fn read_valid_graph<D: Desk>(
     ensures path { FailsAt path.now result }
     ensures only_reads { OnlyReads D.files D.faults D.put_faults desk.old desk.new result }
 {
-    let lock = read_lock_at(alloc, desk, path)?;
+    let lock = read_named_lock(alloc, desk, path, problem)?;
     match judge_lock(alloc, problem, &lock) {
         Ok(_) => Ok(lock.graph),
         Err(stop) => Err(stop),

@@ -4,7 +4,7 @@ ghost use Rattle.std.specs.Prelude.{All};
 ghost use Rattle.variant_values.specs.Texts.{IsInByteOrder};
 ghost use Rattle.problem.specs.Nodes.{IsWellFormed};
 
-use graph_core::{Graph, Node};
+use graph_core::{Edge, Graph, Node};
 use plain_data::Word;
 use variant_values::ValueSet;
 
@@ -24,9 +24,18 @@ fn have_sets(nodes: &[Node])
     }
 }
 
+fn name_sets(edges: &[Edge])
+    ensures { All (λ edge. IsInByteOrder edge.virtuals) edges.now }
+{
+    for edge in edges {
+        let _ = edge.virtuals.values();
+    }
+}
+
 /// A graph is well-formed, as every value of its type.
 pub(crate) fn whole(graph: &Graph)
     ensures { IsWellFormed graph.now }
 {
     have_sets(graph.nodes());
+    name_sets(graph.edges());
 }

@@ -1,9 +1,9 @@
 -- The keys of the settings but `packages`, each with its standard.
-use Rattle.std.specs.Prelude.{ℕ, List, [], codes, Ok}
+use Rattle.std.specs.Prelude.{Bool, ℕ, List, [], codes, Ok}
 use Rattle.std.specs.Option.{unwrap_or}
 use Rattle.serde_json.specs.Data.{Data, Members}
 use Rattle.json_readers.specs.Faults.{Reading, ◌>>=◌}
-use Rattle.json_readers.specs.Texts.{text_of, whole_number}
+use Rattle.json_readers.specs.Texts.{text_of, truth_value, whole_number}
 use Rattle.json_readers.specs.Objects.{may}
 use Rattle.json_readers.specs.Maps.{known_map_of}
 use Rattle.json_texts.specs.Forms.{name_meaning, value_meaning}
@@ -33,3 +33,6 @@ compilers_at = may_or standard.compilers compiler_list (codes "compilers")
 
 abbrev pub provider_entries_at : Members → Reading (List (List ℕ × List (List ℕ)))
 provider_entries_at = may_or [] (known_map_of name_meaning provider_list) (codes "providers")
+
+abbrev pub provided_together_at : Members → Reading Bool
+provided_together_at = may_or standard.provided_together truth_value (codes "provided_together")

@@ -2,7 +2,7 @@
 use Rattle.std.specs.Prelude.{Ok}
 use Rattle.serde_json.specs.Data.{Members}
 use Rattle.json_readers.specs.Faults.{Reading, ◌>>=◌}
-use Rattle.settings_reader.specs.Keys.{platform_at, budget_at, os_at, target_entries_at, compilers_at, provider_entries_at}
+use Rattle.settings_reader.specs.Keys.{platform_at, budget_at, os_at, target_entries_at, compilers_at, provider_entries_at, provided_together_at}
 use Rattle.settings_reader.specs.declared.read.SettingsHead.{SettingsHead}
 use Rattle.settings_reader.specs.declared.read.Tail.{Tail}
 
@@ -20,4 +20,5 @@ unfoldable pub tail_of : Members → Reading Tail
 tail_of ms = do
   compilers ← compilers_at ms
   providers ← provider_entries_at ms
-  Ok (record { compilers = compilers; providers = providers })
+  together ← provided_together_at ms
+  Ok (record { compilers = compilers; providers = providers; provided_together = together })

@@ -12,8 +12,8 @@ use Rattle.settings_reader.specs.declared.stop.What.TheVariants.{Targets}
 use Rattle.site_settings.specs.declared.settings.Settings.{Settings}
 
 abbrev pub settings_keys : List (List ℕ)
-settings_keys = codes "compilers" ∷ codes "conflict_budget" ∷ codes "os" ∷ codes "packages" ∷ codes "platform" ∷ codes "providers"
-    ∷ codes "targets" ∷ []
+settings_keys = codes "compilers" ∷ codes "conflict_budget" ∷ codes "os" ∷ codes "packages" ∷ codes "platform"
+    ∷ codes "provided_together" ∷ codes "providers" ∷ codes "targets" ∷ []
 
 -- the targets, or their fault, which has no pointer
 abbrev pub table_or : List TargetEntry → Option TargetFault → ToldResult (List TargetEntry)
@@ -39,5 +39,6 @@ IsSettings d = do
     compilers =
         tail.compilers;
     providers = tail.providers;
+    provided_together = tail.provided_together;
     packages = packages;
   })

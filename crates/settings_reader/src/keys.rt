@@ -3,10 +3,11 @@
 ghost use Rattle.serde_json.specs.View.{members_view};
 ghost use Rattle.json_readers.specs.Faults.{Gives};
 ghost use Rattle.settings_reader.specs.Keys.{budget_at, compilers_at, os_at, platform_at};
-ghost use Rattle.settings_reader.specs.Keys.{provider_entries_at, target_entries_at};
+ghost use Rattle.settings_reader.specs.Keys.{provided_together_at, provider_entries_at};
+ghost use Rattle.settings_reader.specs.Keys.{target_entries_at};
 
 use crate::lists::{CompilerList, OsList, ProviderList, TargetList};
-use json_readers::{JsonFault, KnownMapOf, Text, WholeNumber, may};
+use json_readers::{JsonFault, KnownMapOf, Text, TruthValue, WholeNumber, may};
 use json_texts::{self, Name};
 use plain_data::{List, Word};
 use serde_json::{Map, Value};
@@ -78,5 +79,14 @@ pub(crate) fn providers_at(
     match may(alloc, members, "providers", &form)? {
         Some(providers) => Ok(providers),
         None => Ok(List::new(alloc)),
+    }
+}
+
+pub(crate) fn provided_together_at(alloc: Global, members: &Members) -> Result<bool, JsonFault>
+    ensures { Gives result (provided_together_at (members_view members.now.entries)) }
+{
+    match may(alloc, members, "provided_together", &TruthValue)? {
+        Some(together) => Ok(together),
+        None => Ok(standard::provided_together()),
     }
 }

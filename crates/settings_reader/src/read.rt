@@ -9,7 +9,9 @@ ghost use Rattle.settings_reader.specs.Settings.{IsSettings, IsTable};
 ghost use Rattle.settings_reader.specs.Files.{IsFaultOf, IsSettingsFileFault, IsOfFile};
 
 use crate::SettingsFault;
-use crate::keys::{budget_at, compilers_at, os_at, platform_at, providers_at, targets_at};
+use crate::keys::{
+    budget_at, compilers_at, os_at, platform_at, provided_together_at, providers_at, targets_at,
+};
 use crate::package::packages_at;
 use crate::stop::{Stop, What, at_root};
 use json_readers::{JsonFault, known, read_json};
@@ -27,7 +29,7 @@ use target_table::{TargetEntry, TargetFault, TargetTable, fault_laws};
 /// `NotJson` where the bytes are no JSON text, or nest lists and objects deeper than 127. Else the
 /// first fault: in each object first the least key that it may not have, then its values, key by
 /// key, in the order `platform`, `conflict_budget`, `os`, `targets`, `compilers`, `providers`,
-/// `packages`; of a target `name`, `parents`; of a compiler `name`, `version`, `os`, `targets`; of
+/// `provided_together`, `packages`; of a target `name`, `parents`; of a compiler `name`, `version`, `os`, `targets`; of
 /// a package `versions`, `buildable`, `externals`, `require`; of an external `spec`, `prefix`; of
 /// an item of `require` first that it has one of `any_of` and `one_of`, then `any_of`, `message`,
 /// `one_of`, `when`. What is said of a list as a whole comes behind its entries, but for `any_of`
@@ -63,6 +65,7 @@ fn settings_of(alloc: Global, value: &Value) -> Result<Settings, Stop>
         "os",
         "packages",
         "platform",
+        "provided_together",
         "providers",
         "targets",
     ];
@@ -78,6 +81,7 @@ fn settings_of(alloc: Global, value: &Value) -> Result<Settings, Stop>
         targets,
         compilers: tail.compilers,
         providers: tail.providers,
+        provided_together: tail.provided_together,
         packages,
     })
 }
@@ -108,11 +112,12 @@ fn head_of(alloc: Global, members: &Map<String, Value>) -> Result<SettingsHead, 
     })
 }
 
-/// The keys from `compilers` to `providers`.
+/// The keys from `compilers` to `provided_together`.
 #[derive(Drop)]
 pub(crate) struct Tail {
     pub compilers: List<CompilerEntry>,
     pub providers: List<(Word, List<Word>)>,
+    pub provided_together: bool,
 }
 
 /// The keys behind `targets`, but for `packages`.
@@ -122,9 +127,11 @@ fn tail_of(alloc: Global, members: &Map<String, Value>) -> Result<Tail, JsonFaul
 {
     let compilers = compilers_at(alloc, members)?;
     let providers = providers_at(alloc, members)?;
+    let provided_together = provided_together_at(alloc, members)?;
     Ok(Tail {
         compilers,
         providers,
+        provided_together,
     })
 }
 

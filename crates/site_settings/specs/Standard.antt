@@ -1,5 +1,5 @@
 -- The standard settings, key by key.
-use Rattle.std.specs.Prelude.{ℕ, List, [], ◌∷◌, None, codes}
+use Rattle.std.specs.Prelude.{Bool, ℕ, List, [], ◌∷◌, None, codes, false}
 use Rattle.target_table.specs.declared.entry.TargetEntry.{TargetEntry}
 use Rattle.site_settings.specs.declared.settings.CompilerEntry.{CompilerEntry}
 use Rattle.site_settings.specs.declared.settings.Settings.{Settings}
@@ -20,6 +20,10 @@ targets = record { name = codes "x86_64"; parents = [] } ∷ []
 abbrev pub compilers : List CompilerEntry
 compilers = record { compiler = record { name = codes "gcc"; version = codes "12.3.0" }; os = None; targets = None } ∷ []
 
+-- each virtual by itself
+abbrev pub provided_together : Bool
+provided_together = false
+
 abbrev pub standard : Settings
 standard = record {
   platform = platform;
@@ -29,5 +33,6 @@ standard = record {
   compilers = compilers;
   providers =
       [];
+  provided_together = provided_together;
   packages = [];
 }

@@ -66,6 +66,9 @@ pub struct Settings {
     pub compilers: List<CompilerEntry>,
     /// For each virtual package that is named the packages that provide it.
     pub providers: List<(Word, List<Word>)>,
+    /// Whether a package that is the provider of one virtual by a directive that names several is the
+    /// provider of the others too, where they have one.
+    pub provided_together: bool,
     /// In byte order of names, each name once.
     pub packages: List<PackageEntry>,
 }

@@ -3,7 +3,7 @@
 ghost use Rattle.std.specs.Prelude.{◌≡◌, IfOk, [], ◌∷◌, codes};
 ghost use Rattle.target_table.specs.Targets.{IsTargetFault};
 ghost use Rattle.site_settings.specs.Standard.{platform, conflict_budget, os, standard, targets};
-ghost use Rattle.site_settings.specs.Standard.{compilers};
+ghost use Rattle.site_settings.specs.Standard.{compilers, provided_together};
 
 use crate::{CompilerEntry, Settings};
 use graph_core::{Compiler, Version, VersionFault, reading_laws};
@@ -23,6 +23,7 @@ impl Settings {
             targets: table(alloc)?,
             compilers: compilers(alloc)?,
             providers: List::new(alloc),
+            provided_together: provided_together(),
             packages: List::new(alloc),
         })
     }
@@ -40,6 +41,13 @@ pub fn conflict_budget() -> u64
     ensures { result ≡ conflict_budget }
 {
     u64::MAX
+}
+
+/// Each virtual by itself.
+pub fn provided_together() -> bool
+    ensures { result ≡ provided_together }
+{
+    false
 }
 
 /// `ubuntu22.04`

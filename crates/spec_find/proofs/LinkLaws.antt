@@ -14,7 +14,7 @@ use Rattle.reachability.proofs.CountLaws.{has_first, has_later, first_or_later, 
 use Rattle.reachability.proofs.HeadLaws.{number_path, zip_push}
 use Rattle.reachability.proofs.PathLaws.{one_arc, two_paths, along, carried}
 use Rattle.graph_core.specs.Graphs.{Text}
-use Rattle.graph_core.specs.declared.node.Kinds.{Kinds}
+use Rattle.reuse_db.specs.declared.record.Dependency.{Dependency}
 use Rattle.reuse_db.specs.Databases.{AreRecords, hashes_of, is_lost, dangling, lost_or}
 use Rattle.reuse_db.specs.declared.record.Record.{Record}
 use Rattle.spec_find.specs.Found.{is_kept, links_of, links_in, IsChained}
@@ -62,25 +62,25 @@ lost_none hashes [] none entry has = absurd (omega (arith, has.1))
 lost_none hashes (e ∷ es) none entry has =
     by_first (find (is_lost hashes) e.dependencies) refl none (λ rest later. lost_none hashes es rest entry later)
   where
-    by_first : (o : Option (Text × Kinds)) → find (is_lost hashes) e.dependencies ≡ o → lost_or e o (dangling hashes es) ≡ None
+    by_first : (o : Option Dependency) → find (is_lost hashes) e.dependencies ≡ o → lost_or e o (dangling hashes es) ≡ None
         → (dangling hashes es ≡ None → Contains es entry → find (is_lost hashes) entry.dependencies ≡ None)
         → find (is_lost hashes) entry.dependencies ≡ None
     by_first None is all further = ⊎_elim
         (λ same. ap (λ (x : Record). find (is_lost hashes) x.dependencies) (sym same) ∙ is)
         (λ later. further all later) (first_or_later e es entry has)
-    by_first (Some d) is all further = absurd (let no : Some (e.hash, d.0) ≡ None = all in cc)
+    by_first (Some d) is all further = absurd (let no : Some (e.hash, d.hash) ≡ None = all in cc)
 
 -- a link or run dependency of a record is a record
 pub kept_there : (records : List Record) → AreRecords records → (place : ℕ) (entry : Record) → slice_get records place ≡ Some entry
-    → (d : Text × Kinds) → Contains entry.dependencies d → is_kept d ≡ true → Contains (hashes_of records) d.0
+    → (d : Dependency) → Contains entry.dependencies d → is_kept d ≡ true → Contains (hashes_of records) d.hash
 kept_there records right place entry got d has kept =
     let there : Contains records entry = (place, got_lt records place entry got, got_is records place entry entry got) in
     let not_lost = found_none (is_lost (hashes_of records)) entry.dependencies (lost_none (hashes_of records) records right.known entry there) d has in
     ⊎_elim
     (λ fails. absurd (false≢true (sym fails ∙ kept)))
-    (λ known. Contains-from_any {eq = bytes_eq} (λ x y e. (bytes_decides x y).0 e) d.0 (hashes_of records)
-    (not_false (list_any (bytes_eq d.0) (hashes_of records)) known))
-    (and_cases (is_kept d) (not (list_any (bytes_eq d.0) (hashes_of records))) not_lost)
+    (λ known. Contains-from_any {eq = bytes_eq} (λ x y e. (bytes_decides x y).0 e) d.hash (hashes_of records)
+    (not_false (list_any (bytes_eq d.hash) (hashes_of records)) known))
+    (and_cases (is_kept d) (not (list_any (bytes_eq d.hash) (hashes_of records))) not_lost)
   where
     not_false : (b : Bool) → not b ≡ false → b ≡ true
     not_false true e = refl
@@ -106,23 +106,23 @@ module _ (keys : List Text) where
       (zip_push (λ arc n. IsAt keys arc.0 n.0 × IsAt keys arc.1 n.1) (links ++ front) numbers link number so_far (first, second))
 
 -- the links of one dependency more, which is kept
-pub links_kept : (entry : Record) (done : ℕ) (d : Text × Kinds) → done < length entry.dependencies → d ≡ get_or entry.dependencies done d
+pub links_kept : (entry : Record) (done : ℕ) (d : Dependency) → done < length entry.dependencies → d ≡ get_or entry.dependencies done d
     → is_kept d ≡ true
-    → flipped (map (λ x. (entry.hash, x.0)) (filter is_kept (take (done + 1) entry.dependencies)))
-    ≡ flipped (map (λ x. (entry.hash, x.0)) (filter is_kept (take done entry.dependencies))) ++ (d.0, entry.hash) ∷ []
+    → flipped (map (λ x. (entry.hash, x.hash)) (filter is_kept (take (done + 1) entry.dependencies)))
+    ≡ flipped (map (λ x. (entry.hash, x.hash)) (filter is_kept (take done entry.dependencies))) ++ (d.hash, entry.hash) ∷ []
 links_kept entry done d lt is kept =
     rw (take_more entry.dependencies done d lt, ← is, filter-append is_kept (take done entry.dependencies) (d ∷ []), kept, map-append, map-append) refl
 
 -- and of one that is not
-pub links_same : (entry : Record) (done : ℕ) (d : Text × Kinds) → done < length entry.dependencies → d ≡ get_or entry.dependencies done d
+pub links_same : (entry : Record) (done : ℕ) (d : Dependency) → done < length entry.dependencies → d ≡ get_or entry.dependencies done d
     → is_kept d ≡ false
-    → flipped (map (λ x. (entry.hash, x.0)) (filter is_kept (take (done + 1) entry.dependencies)))
-    ≡ flipped (map (λ x. (entry.hash, x.0)) (filter is_kept (take done entry.dependencies)))
+    → flipped (map (λ x. (entry.hash, x.hash)) (filter is_kept (take (done + 1) entry.dependencies)))
+    ≡ flipped (map (λ x. (entry.hash, x.hash)) (filter is_kept (take done entry.dependencies)))
 links_same entry done d lt is fails =
     rw (take_more entry.dependencies done d lt, ← is, filter-append is_kept (take done entry.dependencies) (d ∷ []), fails, append-nil) refl
 
 -- two records at one place are one, with one list of dependencies
-pub same_dependencies : (records : List Record) (place : ℕ) (e entry : Record) (items : List (Text × Kinds)) → slice_get records place ≡ Some e
+pub same_dependencies : (records : List Record) (place : ℕ) (e entry : Record) (items : List Dependency) → slice_get records place ≡ Some e
     → slice_get records place ≡ Some entry → items ≡ e.dependencies → items ≡ entry.dependencies
 same_dependencies records place e entry items got got_other is =
     let both : Some e ≡ Some entry = sym got ∙ got_other in
@@ -130,16 +130,16 @@ same_dependencies records place e entry items got got_other is =
     is ∙ ap (λ (x : Record). x.dependencies) one
 
 -- one arc more, of a dependency that is kept
-pub one_arc_more : (records : List Record) (place : ℕ) (entry : Record) → slice_get records place ≡ Some entry → (done : ℕ) (d : Text × Kinds)
-    → done < length entry.dependencies → d ≡ get_or entry.dependencies done d → is_kept d ≡ true → (a : ℕ) → IsAt (hashes_of records) d.0 a
+pub one_arc_more : (records : List Record) (place : ℕ) (entry : Record) → slice_get records place ≡ Some entry → (done : ℕ) (d : Dependency)
+    → done < length entry.dependencies → d ≡ get_or entry.dependencies done d → is_kept d ≡ true → (a : ℕ) → IsAt (hashes_of records) d.hash a
     → (links : List (Text × Text)) (arcs : List (ℕ × ℕ))
-    → AreNumbered (hashes_of records) (links ++ flipped (map (λ x. (entry.hash, x.0)) (filter is_kept (take done entry.dependencies)))) arcs
-    → AreNumbered (hashes_of records) (links ++ flipped (map (λ x. (entry.hash, x.0)) (filter is_kept (take (done + 1) entry.dependencies))))
+    → AreNumbered (hashes_of records) (links ++ flipped (map (λ x. (entry.hash, x.hash)) (filter is_kept (take done entry.dependencies)))) arcs
+    → AreNumbered (hashes_of records) (links ++ flipped (map (λ x. (entry.hash, x.hash)) (filter is_kept (take (done + 1) entry.dependencies))))
     (arcs ++ (a, place) ∷ [])
 one_arc_more records place entry got done d lt is kept a at links arcs so_far =
     subst (λ l. AreNumbered (hashes_of records) (links ++ l) (arcs ++ (a, place) ∷ [])) (sym (links_kept entry done d lt is kept))
-    (numbered_push (hashes_of records) links (flipped (map (λ x. (entry.hash, x.0)) (filter is_kept (take done entry.dependencies))))
-    (d.0, entry.hash) arcs (a, place) so_far at (hash_there records place entry got))
+    (numbered_push (hashes_of records) links (flipped (map (λ x. (entry.hash, x.hash)) (filter is_kept (take done entry.dependencies))))
+    (d.hash, entry.hash) arcs (a, place) so_far at (hash_there records place entry got))
 
 -- the links of one record more
 pub links_more : (records : List Record) (place : ℕ) (entry : Record) → slice_get records place ≡ Some entry

@@ -6,7 +6,7 @@ use Rattle.graph_core.specs.OfVariantValues.Texts.{byte_cmp}
 use Rattle.graph_core.specs.OfKeyedLists.Keyed.{IsInOrder}
 use Rattle.graph_core.specs.OfReachability.Paths.{Path, HasArc}
 use Rattle.graph_core.specs.declared.node.Node.{Node}
-use Rattle.graph_core.specs.declared.node.Kinds.{Kinds}
+use Rattle.reuse_db.specs.declared.record.Dependency.{Dependency}
 use Rattle.graph_core.specs.declared.node.Origin.TheVariants.{Installed}
 use Rattle.reuse_db.specs.Databases.{hashes_of}
 use Rattle.reuse_db.specs.declared.record.Record.{Record}
@@ -30,12 +30,12 @@ installed_node entry = record {
 }
 
 -- it is needed to link or to run, and not to build alone
-abbrev pub is_kept : Text × Kinds → Bool
-is_kept d = d.1.link || d.1.run
+abbrev pub is_kept : Dependency → Bool
+is_kept d = d.kinds.link || d.kinds.run
 
 -- the hash of a record with that of each of its link and run dependencies
 abbrev pub links_of : Record → List (Text × Text)
-links_of entry = map (λ d. (entry.hash, d.0)) (filter is_kept entry.dependencies)
+links_of entry = map (λ d. (entry.hash, d.hash)) (filter is_kept entry.dependencies)
 
 abbrev pub links_in : List Record → List (Text × Text)
 links_in records = flat_map links_of records

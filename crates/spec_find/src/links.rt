@@ -9,10 +9,9 @@ ghost use Rattle.spec_find.specs.Orders.{AreByHash};
 ghost use Rattle.spec_find.specs.Marks.{AreParents, flipped};
 
 use crate::order::{Placed, known_place};
-use graph_core::{Kinds, heads_of};
+use graph_core::heads_of;
 use plain_data::List;
-use reuse_db::Record;
-use spec_hash::Hash;
+use reuse_db::{Dependency, Record};
 use std::alloc::{AllocError, Global};
 
 /// For each record the places of those that need it to link or to run.
@@ -65,14 +64,14 @@ fn add_arcs(
     let entry = &records[place];
     for needed in entry.dependencies.as_slice() {
         if is_kept(needed) {
-            arcs.push((known_place(records, order, needed.0.as_str()), place))?;
+            arcs.push((known_place(records, order, needed.hash.as_str()), place))?;
         }
     }
     Ok(())
 }
 
-fn is_kept(needed: &(Hash, Kinds)) -> bool
+fn is_kept(needed: &Dependency) -> bool
     ensures { result ≡ is_kept needed.now }
 {
-    needed.1.link || needed.1.run
+    needed.kinds.link || needed.kinds.run
 }

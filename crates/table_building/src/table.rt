@@ -23,7 +23,8 @@ pub fn table_of(
     ensures next { OnOk result (next.new ≡ next.old
         + variables_of (plan_of problem.now closure.now)) }
 {
-    let plan = plan_of(alloc, problem, closure.names())?;
+    let _names = closure.names();
+    let plan = plan_of(alloc, problem, closure)?;
     let table = table_from(alloc, next, &plan)?;
     Ok(table)
 }

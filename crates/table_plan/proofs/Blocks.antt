@@ -45,7 +45,8 @@ length-value_bits (v ∷ vs) variants = omega (
 
 -- ---- the order of variants
 
-numbered_keys : {T : Type 0} (n : ℕ) (xs : List T) → map (λ c. c.0) (numbered n xs) ≡ xs
+-- what is numbered are the elements
+pub numbered_keys : {T : Type 0} (n : ℕ) (xs : List T) → map (λ c. c.0) (numbered n xs) ≡ xs
 numbered_keys n [] = refl
 numbered_keys n (x ∷ xs) = ap (λ ys. x ∷ ys) (numbered_keys (n + 1) xs)
 

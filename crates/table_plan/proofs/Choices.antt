@@ -83,7 +83,7 @@ module _ (v : ℕ → Bool) where
       λ i. cons_option (with_values w.0 (here i)) (rest i)
 
 -- the values that are kept of a set are those of a smaller set
-smaller_set : (few many : List Text) → IsInByteOrder few → IsInByteOrder many → ((q : Text) → Contains few q → Contains many q)
+pub smaller_set : (few many : List Text) → IsInByteOrder few → IsInByteOrder many → ((q : Text) → Contains few q → Contains many q)
     → filter (is_one_text few) many ≡ few
 smaller_set few many order all within =
     same_texts (filter (is_one_text few) many) few (IsStrictlySortedBy-filter byte_cmp (is_one_text few) many all) order

@@ -11,10 +11,10 @@ use Rattle.literal_table.specs.declared.block.Block.{Block}
 use Rattle.literal_table.specs.declared.block.EdgeLits.{EdgeLits}
 use Rattle.literal_table.specs.declared.block.ProviderLits.{ProviderLits}
 use Rattle.table_plan.specs.declared.plan.Possible.{Possible}
+use Rattle.table_plan.specs.declared.plan.PossibleEdge.{PossibleEdge}
 use Rattle.table_plan.specs.declared.plan.Plan.{Plan}
-use Rattle.table_plan.specs.Numbers.{positive_lit, numbered, attribute, width_of, variants_from, value_count, total_width, block_width, widths, block_from, blocks_from, edge_lits_from, edge_from, provider_from, providers_from, table_from, variables_of}
+use Rattle.table_plan.specs.Numbers.{positive_lit, numbered, attribute, width_of, variants_from, value_count, total_width, block_width, widths, block_from, blocks_from, edge_lits_from, edge_from, edge_width, edge_widths, provider_from, providers_from, table_from, variables_of}
 use Rattle.literal_table.specs.Ranges.{AreBelow, IsBlockBelow, IsTableBelow}
-use Rattle.table_plan.proofs.Runs.{threes}
 
 append_below : (m : ℕ) (ls ks : List Lit) → AllBelow m ls → AllBelow m ks → AllBelow m (ls ++ ks)
 append_below m [] ks a b = b
@@ -59,14 +59,14 @@ blocks_below m n (p ∷ ps) le b there = ⊎_elim
 abbrev EdgeBelow : ℕ → EdgeLits → Type 0
 EdgeBelow m e = AllBelow m (e.build ∷ e.link ∷ e.run ∷ [])
 
-edges_below : (m n : ℕ) (pairs : List (Text × Text)) → n + total_width (λ pair. 3) pairs ≤ m → (e : EdgeLits)
-    → Contains (edge_lits_from n pairs) e
-    → EdgeBelow m e
+edges_below : (m n : ℕ) (es : List PossibleEdge) → n + edge_widths es ≤ m → (e : EdgeLits) → Contains (edge_lits_from n es) e
+    → EdgeBelow m e × AreBelow m e.virtuals
 edges_below m n [] le e there = absurd (omega (arith, there.1))
-edges_below m n (pair ∷ pairs) le e there = ⊎_elim
-    (λ same. subst (EdgeBelow m) same (omega (arith, le), (omega (arith, le), (omega (arith, le), tt))))
-    (λ later. edges_below m (n + 3) pairs (omega (arith, le)) e later)
-    (first_or_later (edge_from n pair) (edge_lits_from (n + 3) pairs) e there)
+edges_below m n (d ∷ ds) le e there = ⊎_elim
+    (λ same. subst (λ (x : EdgeLits). EdgeBelow m x × AreBelow m x.virtuals) same
+    ((omega (arith, le), (omega (arith, le), (omega (arith, le), tt))), numbered_below m (n + 3) d.virtuals (omega (arith, le))))
+    (λ later. edges_below m (n + edge_width d) ds (omega (arith, le)) e later)
+    (first_or_later (edge_from n d) (edge_lits_from (n + edge_width d) ds) e there)
 
 providers_below : (m n : ℕ) (ws : List (Text × List Text)) → n + value_count ws ≤ m → (p : ProviderLits) → Contains (providers_from n ws) p
     → AreBelow m p.packages
@@ -80,11 +80,13 @@ providers_below m n (w ∷ ws) le p there = ⊎_elim
 pub table_below : (n : ℕ) (plan : Plan) → IsTableBelow (n + variables_of plan) (table_from n plan)
 unfolding table_from variables_of
 table_below n plan =
-    let m = n + (widths plan.nodes + 3 * length plan.edges + value_count plan.providers) in record {
+    let m = n + (widths plan.nodes + edge_widths plan.edges + value_count plan.providers) in record {
       blocks = all_from (IsBlockBelow m) (blocks_from n plan.nodes) (blocks_below m n plan.nodes (omega arith));
       edges = all_from (EdgeBelow m) (edge_lits_from (n + widths plan.nodes) plan.edges)
-          (edges_below m (n + widths plan.nodes) plan.edges (omega (arith, threes plan.edges)));
+          (λ e there. (edges_below m (n + widths plan.nodes) plan.edges (omega arith) e there).0);
+      virtuals = all_from (λ (e : EdgeLits). AreBelow m e.virtuals) (edge_lits_from (n + widths plan.nodes) plan.edges)
+          (λ e there. (edges_below m (n + widths plan.nodes) plan.edges (omega arith) e there).1);
       providers = all_from (λ (p : ProviderLits). AreBelow m p.packages)
-          (providers_from (n + widths plan.nodes + 3 * length plan.edges) plan.providers)
-          (providers_below m (n + widths plan.nodes + 3 * length plan.edges) plan.providers (omega arith));
+          (providers_from (n + widths plan.nodes + edge_widths plan.edges) plan.providers)
+          (providers_below m (n + widths plan.nodes + edge_widths plan.edges) plan.providers (omega arith));
     }

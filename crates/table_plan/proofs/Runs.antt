@@ -1,5 +1,5 @@
 -- Runs of numbers: one element more.
-use Rattle.std.proofs.Common.{◌≡◌, refl, sym, ap, subst, ◌∙◌, ℕ, ◌+◌, ◌*◌, ◌<◌, List, [], ◌∷◌, ◌++◌, take, get_or, length, arith}
+use Rattle.std.proofs.Common.{◌≡◌, refl, sym, ap, subst, ◌∙◌, ℕ, ◌+◌, ◌<◌, List, [], ◌∷◌, ◌++◌, take, get_or, length, arith}
 use Rattle.std.proofs.lemmas.List.{take_more}
 use Rattle.table_plan.specs.Numbers.{numbered_run, total_width}
 
@@ -39,8 +39,3 @@ run_next make width xs i x lt is n next e =
 pub ones : {X : Type 0} (xs : List X) → total_width (λ x. 1) xs ≡ length xs
 ones [] = refl
 ones (x ∷ xs) = omega (arith, ones xs)
-
--- three for each
-pub threes : {X : Type 0} (xs : List X) → total_width (λ x. 3) xs ≡ 3 * length xs
-threes [] = refl
-threes (x ∷ xs) = omega (arith, threes xs)

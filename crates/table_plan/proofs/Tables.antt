@@ -13,31 +13,32 @@ use Rattle.std.proofs.lemmas.List.Elements.{All-contains}
 use Rattle.reachability.proofs.CountLaws.{has_first, has_later, first_or_later, has_image, image_of}
 use Rattle.variant_values.specs.Texts.{byte_cmp, IsInByteOrder}
 use Rattle.keyed_lists.specs.Keyed.{IsInOrder, find_key}
-use Rattle.keyed_lists.proofs.RiseLaws.{all_from, rises_above, rises_rest}
+use Rattle.keyed_lists.proofs.RiseLaws.{all_from, rises_above, rises_none, rises_rest}
 use Rattle.keyed_lists.proofs.TextLaws.{texts_decide}
 use Rattle.graph_core.specs.Graphs.{Text, Content, pair_cmp, node_of, edge_of, provider_of}
 use Rattle.graph_core.proofs.PairLaws.{pair_exact, pair_total}
 use Rattle.graph_core.specs.declared.node.Node.{Node}
 use Rattle.graph_core.specs.declared.node.Edge.{Edge}
 use Rattle.graph_core.specs.declared.node.Kinds.{Kinds}
-use Rattle.condition_rules.specs.Words.{is_some_and}
+use Rattle.condition_rules.specs.Words.{is_one_text, is_some_and}
 use Rattle.problem.specs.Nodes.{has_kind}
 use Rattle.literal_table.specs.Choices.{Choices, chosen}
-use Rattle.literal_table.specs.Tables.{Table, IsTable, AreVariantsInOrder, block_name, ends_of_edge, provider_virtual, block_of, edge_lits_of, packages_of, provider_packages}
-use Rattle.literal_table.specs.Spells.{SpellsNode, SpellsAt, SpellsEdge, Spells, chosen_kinds, if_any_kind}
+use Rattle.literal_table.specs.Tables.{Table, IsTable, AreVariantsInOrder, block_name, ends_of_edge, provider_virtual, block_of, edge_lits_of, virtual_choices, packages_of, provider_packages, value_of}
+use Rattle.literal_table.specs.Spells.{SpellsNode, SpellsAt, SpellsEdge, Spells, virtuals_in, chosen_kinds, if_any_kind}
 use Rattle.literal_table.specs.declared.block.Block.{Block}
 use Rattle.literal_table.specs.declared.block.EdgeLits.{EdgeLits}
 use Rattle.literal_table.proofs.Spelling.{named-so}
 use Rattle.table_plan.specs.Gathering.{EachOnce}
-use Rattle.table_plan.specs.Offers.{Offers, IsOffered, IsPossible, IsPlan}
+use Rattle.table_plan.specs.Offers.{Offers, OffersEdge, IsOffered, IsPossible, IsPlan, ends_of_possible}
 use Rattle.table_plan.specs.declared.plan.Possible.{Possible}
+use Rattle.table_plan.specs.declared.plan.PossibleEdge.{PossibleEdge}
 use Rattle.table_plan.specs.declared.plan.Plan.{Plan}
 use Rattle.table_plan.proofs.GatherLaws.{only_one}
-use Rattle.table_plan.specs.Numbers.{positive_lit, numbered, value_count, block_width, widths, block_from, blocks_from, numbered_run, edge_from, edge_lits_from, provider_from, providers_from, table_from, variables_of}
-use Rattle.table_plan.specs.Spellings.{node_bits, nodes_bits, edge_bits, edges_bits, providers_bits, graph_bits, with_bits, spelling, AgreeOutside}
+use Rattle.table_plan.specs.Numbers.{positive_lit, numbered, value_count, block_width, widths, block_from, blocks_from, numbered_run, edge_from, edge_lits_from, edge_width, edge_widths, provider_from, providers_from, table_from, variables_of}
+use Rattle.table_plan.specs.Spellings.{node_bits, nodes_bits, kind_bits, edge_bits, edges_bits, providers_bits, graph_bits, with_bits, spelling, AgreeOutside}
 use Rattle.table_plan.proofs.ReadLaws.{Reads, reads_parts, reads_bits, bits_before, bits_after}
-use Rattle.table_plan.proofs.Choices.{numbered_reads, nothing_kept}
-use Rattle.table_plan.proofs.Blocks.{length-node_bits, block_ordered, block_named, node_read}
+use Rattle.table_plan.proofs.Choices.{numbered_reads, nothing_kept, smaller_set}
+use Rattle.table_plan.proofs.Blocks.{length-node_bits, block_ordered, block_named, node_read, numbered_keys}
 use Rattle.table_plan.proofs.PlanLaws.{ties}
 
 -- ---- lengths
@@ -51,17 +52,25 @@ length-nodes_bits graph (p ∷ ps) = omega (
   length-nodes_bits graph ps,
 )
 
-length-edge_bits : (o : Option Edge) → length (edge_bits o) ≡ 3
-length-edge_bits None = refl
-length-edge_bits (Some e) = refl
+length-kind_bits : (o : Option Edge) → length (kind_bits o) ≡ 3
+length-kind_bits None = refl
+length-kind_bits (Some e) = refl
 
-length-edges_bits : (graph : Content) (pairs : List (Text × Text)) → length (edges_bits graph pairs) ≡ 3 * length pairs
-length-edges_bits graph [] = refl
-length-edges_bits graph (pair ∷ pairs) = omega (
+length-edge_bits : (e : PossibleEdge) (o : Option Edge) → length (edge_bits e o) ≡ edge_width e
+length-edge_bits e o = omega (
   arith,
-  length-append (edge_bits (edge_of graph pair.0 pair.1)) (edges_bits graph pairs),
-  length-edge_bits (edge_of graph pair.0 pair.1),
-  length-edges_bits graph pairs,
+  length-append (kind_bits o) (map (is_one_text (virtuals_in o)) e.virtuals),
+  length-kind_bits o,
+  length-map e.virtuals (is_one_text (virtuals_in o)),
+)
+
+length-edges_bits : (graph : Content) (es : List PossibleEdge) → length (edges_bits graph es) ≡ edge_widths es
+length-edges_bits graph [] = refl
+length-edges_bits graph (e ∷ es) = omega (
+  arith,
+  length-append (edge_bits e (edge_of graph e.parent e.child)) (edges_bits graph es),
+  length-edge_bits e (edge_of graph e.parent e.child),
+  length-edges_bits graph es,
 )
 
 length-providers_bits : (graph : Content) (ws : List (Text × List Text)) → length (providers_bits graph ws) ≡ value_count ws
@@ -100,6 +109,12 @@ nothing_there (Some x) f = absurd (f x refl)
 
 -- ---- nodes, edges and providers
 
+-- what is read of the literals of an edge
+record EdgeRead (v : ℕ → Bool) (c : Option EdgeLits) (o : Option Edge) : Type 0 where
+  pub kinds : SpellsEdge v c o
+  pub virtuals : chosen v (virtual_choices c) ≡ virtuals_in o
+  pub order : IsInOrder byte_cmp value_of (virtual_choices c)
+
 module _ (v : ℕ → Bool) (graph : Content) where
   nodes_read : (n : ℕ) (ps : List Possible) → IsInOrder byte_cmp (λ p. p.name) ps → All IsPossible ps → Reads v n (nodes_bits graph ps)
       → (name : Text) → ((node : Node) → node_of graph name ≡ Some node → (p : Possible) × Contains ps p × (p.name ≡ name) × Offers p node)
@@ -130,34 +145,76 @@ module _ (v : ℕ → Bool) (graph : Content) where
       ))))
       (cases_Bool (eq_by_cmp byte_cmp (block_from n p).name name))
 
-  edge_read : (n : ℕ) (pair : Text × Text) (o : Option Edge) → ((e : Edge) → o ≡ Some e → has_kind e.kinds ≡ true) → Reads v n (edge_bits o)
-      → SpellsEdge v (Some (edge_from n pair)) o
-  edge_read n pair None f r =
-      let two : v (n + 2) ≡ false = subst (λ m. v m ≡ false) (let e : n + 1 + 1 ≡ n + 2 = omega arith in e) r.1.1.0 in
+  kinds_read : (n : ℕ) (e : PossibleEdge) (o : Option Edge) → ((edge : Edge) → o ≡ Some edge → has_kind edge.kinds ≡ true)
+      → Reads v n (kind_bits o) → SpellsEdge v (Some (edge_from n e)) o
+  kinds_read n e None f r =
+      let two : v (n + 2) ≡ false = subst (λ m. v m ≡ false) (let s : n + 1 + 1 ≡ n + 2 = omega arith in s) r.1.1.0 in
       rw (r.0, r.1.0, two) refl
-  edge_read n pair (Some e) f r =
-      let two : v (n + 2) ≡ e.kinds.run = subst (λ m. v m ≡ e.kinds.run) (let s : n + 1 + 1 ≡ n + 2 = omega arith in s) r.1.1.0 in
-      rw (r.0, r.1.0, two, f e refl) refl
+  kinds_read n e (Some edge) f r =
+      let two : v (n + 2) ≡ edge.kinds.run = subst (λ m. v m ≡ edge.kinds.run) (let s : n + 1 + 1 ≡ n + 2 = omega arith in s) r.1.1.0 in
+      rw (r.0, r.1.0, two, f edge refl) refl
 
-  edges_read : (n : ℕ) (pairs : List (Text × Text)) → Reads v n (edges_bits graph pairs) → (parent child : Text)
-      → ((e : Edge) → edge_of graph parent child ≡ Some e → Contains pairs (parent, child) × (has_kind e.kinds ≡ true))
-      → SpellsEdge v (find_key pair_cmp ends_of_edge (edge_lits_from n pairs) (parent, child)) (edge_of graph parent child)
-  edges_read n [] r parent child f = nothing_there (edge_of graph parent child) (λ e is. let at = f e is in omega (arith, at.0.1))
-  edges_read n (pair ∷ pairs) r parent child f =
-      let parts = reads_parts v n (edge_bits (edge_of graph pair.0 pair.1)) (edges_bits graph pairs) r in
-      let later = subst (λ m. Reads v (n + m) (edges_bits graph pairs)) (length-edge_bits (edge_of graph pair.0 pair.1)) parts.1 in
-      let rest = edges_read (n + 3) pairs later parent child in
+  virtuals_read : (n : ℕ) (e : PossibleEdge) (o : Option Edge) → IsInByteOrder e.virtuals
+      → ((edge : Edge) → o ≡ Some edge → OffersEdge e edge)
+      → Reads v n (map (is_one_text (virtuals_in o)) e.virtuals) → chosen v (numbered n e.virtuals) ≡ virtuals_in o
+  virtuals_read n e None rising f r = numbered_reads v (is_one_text []) n e.virtuals r ∙ nothing_kept e.virtuals
+  virtuals_read n e (Some edge) rising f r =
+      let has = f edge refl in
+      numbered_reads v (is_one_text edge.virtuals) n e.virtuals r ∙ smaller_set edge.virtuals e.virtuals has.order rising has.each
+
+  edge_read : (n : ℕ) (e : PossibleEdge) (o : Option Edge) → IsInByteOrder e.virtuals
+      → ((edge : Edge) → o ≡ Some edge → OffersEdge e edge)
+      → Reads v n (edge_bits e o) → EdgeRead v (Some (edge_from n e)) o
+  edge_read n e o rising f r =
+      let parts = reads_parts v n (kind_bits o) (map (is_one_text (virtuals_in o)) e.virtuals) r in
+      let names = subst (λ m. Reads v (n + m) (map (is_one_text (virtuals_in o)) e.virtuals)) (length-kind_bits o) parts.1 in
+      record {
+        kinds = kinds_read n e o (λ edge is. (f edge is).kind) parts.0;
+        virtuals = virtuals_read (n + 3) e o rising f names;
+        order = subst IsInByteOrder (sym (numbered_keys (n + 3) e.virtuals)) rising;
+      }
+
+  edges_read : (n : ℕ) (es : List PossibleEdge) → IsInOrder pair_cmp ends_of_possible es → All (λ e. IsInByteOrder e.virtuals) es
+      → Reads v n (edges_bits graph es) → (parent child : Text)
+      → ((edge : Edge) → edge_of graph parent child ≡ Some edge → (e : PossibleEdge) × Contains es e
+      × (ends_of_possible e ≡ (parent, child)) × OffersEdge e edge)
+      → EdgeRead v (find_key pair_cmp ends_of_edge (edge_lits_from n es) (parent, child)) (edge_of graph parent child)
+  edges_read n [] rising sets r parent child f =
+      let none = nothing_there (edge_of graph parent child) (λ edge is. let at = f edge is in omega (arith, at.1.1)) in
+      record { kinds = none; virtuals = sym (ap virtuals_in none); order = rises_none byte_cmp }
+  edges_read n (d ∷ ds) rising sets r parent child f =
+      let parts = reads_parts v n (edge_bits d (edge_of graph d.parent d.child)) (edges_bits graph ds) r in
+      let later = subst (λ m. Reads v (n + m) (edges_bits graph ds)) (length-edge_bits d (edge_of graph d.parent d.child)) parts.1 in
+      let first : IsInByteOrder d.virtuals = All-contains (λ (e : PossibleEdge). IsInByteOrder e.virtuals) (d ∷ ds) d sets (has_first d ds) in
+      let rest = edges_read (n + edge_width d) ds (rises_rest pair_cmp (ends_of_possible d) (map ends_of_possible ds) rising)
+      (all_from (λ (e : PossibleEdge). IsInByteOrder e.virtuals) ds
+      (λ e there. All-contains (λ (x : PossibleEdge). IsInByteOrder x.virtuals) (d ∷ ds) e sets (has_later d ds e there))) later parent child in
       ⊎_elim
       (λ hit.
-      let same : pair ≡ (parent, child) = pair_exact pair (parent, child) (ties (pair_cmp pair (parent, child)) hit) in
-      rw hit (edge_read n pair (edge_of graph parent child) (λ e is. (f e is).1)
-      (subst (λ (p : Text × Text). Reads v n (edge_bits (edge_of graph p.0 p.1))) same parts.0)))
-      (λ miss. rw miss (rest (λ e is. let at = f e is in (
-        ⊎_elim (λ same. absurd (false≢true (sym miss ∙ ap is_eq (ap (λ (p : Text × Text). pair_cmp p (parent, child)) same
-            ∙ tied_itself pair_total (parent, child))))) (λ in_pairs. in_pairs) (first_or_later pair pairs (parent, child) at.0),
-        at.1,
+      let same : ends_of_possible d ≡ (parent, child) = pair_exact (ends_of_possible d) (parent, child)
+      (ties (pair_cmp (ends_of_possible d) (parent, child)) hit) in
+      rw hit (edge_read n d (edge_of graph parent child) first
+      (λ edge is. let at = f edge is in ⊎_elim (λ one. subst (λ (e : PossibleEdge). OffersEdge e edge) (sym one) at.3)
+      (λ in_ds. absurd (above (ends_of_possible d) at.0 ds rising in_ds (same ∙ sym at.2)))
+      (first_or_later d ds at.0 at.1))
+      (subst (λ (p : Text × Text). Reads v n (edge_bits d (edge_of graph p.0 p.1))) same parts.0)))
+      (λ miss. rw miss (rest (λ edge is. let at = f edge is in (
+        at.0,
+        ⊎_elim (λ one. absurd (false≢true (sym miss ∙ ap is_eq (ap (λ (e : PossibleEdge). pair_cmp (ends_of_possible e) (parent, child)) one
+            ∙ ap (λ (p : Text × Text). pair_cmp p (parent, child)) at.2 ∙ tied_itself pair_total (parent, child))))) (λ in_ds. in_ds)
+            (first_or_later d ds at.0 at.1),
+        at.2,
+        at.3,
       ))))
-      (cases_Bool (eq_by_cmp pair_cmp pair (parent, child)))
+      (cases_Bool (eq_by_cmp pair_cmp (ends_of_possible d) (parent, child)))
+    where
+      -- the ends of a later edge are others
+      above : (p : Text × Text) (e : PossibleEdge) (es : List PossibleEdge) → IsStrictlySortedBy pair_cmp (p ∷ map ends_of_possible es)
+          → Contains es e → p ≡ ends_of_possible e → ⊥
+      above p e es order in_es same =
+          let less : pair_cmp p (ends_of_possible e) ≡ Less = rises_above pair_cmp p (map ends_of_possible es) order (ends_of_possible e)
+          (has_image ends_of_possible es e in_es) in
+          let both : Less ≡ Equal = sym less ∙ ap (pair_cmp p) (sym same) ∙ tied_itself pair_total p in cc
 
   packages_read : (n : ℕ) (packages : List Text) (o : Option Text) → IsInByteOrder packages
       → ((p : Text) → o ≡ Some p → Contains packages p)
@@ -212,12 +269,15 @@ module _ (n : ℕ) (plan : Plan) (graph : Content) (is : IsPlan plan) (has : IsO
       let edges = reads_parts v (n + widths plan.nodes) (edges_bits graph plan.edges) (providers_bits graph plan.providers) after in
       let last = subst (λ m. Reads v (n + widths plan.nodes + m) (providers_bits graph plan.providers))
       (length-edges_bits graph plan.edges) edges.1 in
+      let edge_at = edges_read v graph (n + widths plan.nodes) plan.edges is.edges is.virtuals edges.0 in
       record {
         nodes = λ name. nodes_read v graph n plan.nodes is.nodes is.possible nodes.0 name (λ node e.
             let at = has.nodes name node e in
             (at.0, at.1, sym at.2.name ∙ named-so graph name node e, at.2));
-        edges = λ parent child. edges_read v graph (n + widths plan.nodes) plan.edges edges.0 parent child (has.edges parent child);
-        providers = λ name. providers_read v graph (n + widths plan.nodes + 3 * length plan.edges) plan.providers is.providers
+        edges = λ parent child. (edge_at parent child (has.edges parent child)).kinds;
+        virtuals = λ parent child. (edge_at parent child (has.edges parent child)).virtuals;
+        virtual_order = λ parent child. (edge_at parent child (has.edges parent child)).order;
+        providers = λ name. providers_read v graph (n + widths plan.nodes + edge_widths plan.edges) plan.providers is.providers
             is.packages last name
             (has.providers name);
       }
@@ -254,9 +314,14 @@ blocks_ordered n (p ∷ ps) is b there = ⊎_elim
     (λ later. blocks_ordered (n + block_width p) ps (λ q in_ps. is q (has_later p ps q in_ps)) b later)
     (first_or_later (block_from n p) (blocks_from (n + block_width p) ps) b there)
 
-pair_itself : (pairs : List (Text × Text)) → map (λ pair. pair) pairs ≡ pairs
-pair_itself [] = refl
-pair_itself (pair ∷ pairs) = ap (λ ps. pair ∷ ps) (pair_itself pairs)
+names_ordered : (n : ℕ) (es : List PossibleEdge) → ((e : PossibleEdge) → Contains es e → IsInByteOrder e.virtuals) → (l : EdgeLits)
+    → Contains (edge_lits_from n es) l → IsInOrder byte_cmp value_of l.virtuals
+names_ordered n [] is l there = absurd (omega (arith, there.1))
+names_ordered n (e ∷ es) is l there = ⊎_elim
+    (λ same. subst (λ (x : EdgeLits). IsInOrder byte_cmp value_of x.virtuals) same
+    (subst IsInByteOrder (sym (numbered_keys (n + 3) e.virtuals)) (is e (has_first e es))))
+    (λ later. names_ordered (n + edge_width e) es (λ d in_es. is d (has_later e es d in_es)) l later)
+    (first_or_later (edge_from n e) (edge_lits_from (n + edge_width e) es) l there)
 
 -- the table of a plan is in order
 pub table_right : (n : ℕ) (plan : Plan) → IsPlan plan → IsTable (table_from n plan)
@@ -264,9 +329,11 @@ unfolding table_from
 table_right n plan is = record {
   blocks = subst IsInByteOrder (sym (made_keys block_from block_width block_name (λ p. p.name) block_named n plan.nodes)) is.nodes;
   edges = subst (IsStrictlySortedBy pair_cmp)
-      (sym (made_keys edge_from (λ pair. 3) ends_of_edge (λ pair. pair) (λ m pair. refl) _ plan.edges ∙ pair_itself plan.edges)) is.edges;
+      (sym (made_keys edge_from edge_width ends_of_edge ends_of_possible (λ m e. refl) _ plan.edges)) is.edges;
   providers = subst IsInByteOrder
       (sym (made_keys provider_from (λ w. length w.1) provider_virtual (λ w. w.0) (λ m w. refl) _ plan.providers)) is.providers;
   variants = all_from AreVariantsInOrder (blocks_from n plan.nodes)
       (blocks_ordered n plan.nodes (λ p there. All-contains IsPossible plan.nodes p is.possible there));
+  virtuals = all_from (λ (l : EdgeLits). IsInOrder byte_cmp value_of l.virtuals) (edge_lits_from _ plan.edges)
+      (names_ordered _ plan.edges (λ e there. All-contains (λ (x : PossibleEdge). IsInByteOrder x.virtuals) plan.edges e is.virtuals there));
 }

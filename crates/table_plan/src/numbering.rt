@@ -1,9 +1,9 @@
 //! The table of a plan.
-ghost use Rattle.std.specs.Prelude.{◌≡◌, ◌+◌, ◌*◌, [], ◌∷◌, length, IfOk, OnOk};
+ghost use Rattle.std.specs.Prelude.{◌≡◌, ◌+◌, [], ◌∷◌, length, IfOk, OnOk};
 ghost use Rattle.table_plan.specs.Offers.{IsPlan};
-ghost use Rattle.table_plan.specs.Numbers.{positive_lit, numbered, attribute, width_of, variants_from, value_count, block_width, widths, block_from, blocks_from, edge_from, edge_lits_from, provider_from, providers_from, table_from, variables_of};
+ghost use Rattle.table_plan.specs.Numbers.{positive_lit, numbered, attribute, width_of, variants_from, value_count, block_width, widths, block_from, blocks_from, edge_from, edge_lits_from, edge_width, edge_widths, provider_from, providers_from, table_from, variables_of};
 
-use crate::{Plan, Possible};
+use crate::{Plan, Possible, PossibleEdge};
 use clause_store::{Lit, Var};
 use literal_table::{Block, EdgeLits, LiteralTable, ProviderLits};
 use plain_data::{Duplicate, List, Word};
@@ -160,20 +160,22 @@ fn blocks_from(alloc: Global, next: &mut u64, nodes: &[Possible]) -> Result<Vec<
     Ok(blocks)
 }
 
-// A new literal for each kind of an edge.
-fn edge_from(alloc: Global, next: &mut u64, pair: &(Word, Word)) -> Result<EdgeLits, AllocError>
-    ensures edge { IfOk result (λ edge. edge ≡ edge_from next.old pair.now) }
-    ensures next { OnOk result (next.new ≡ next.old + 3) }
+// A new literal for each kind of an edge, and for each virtual that it may name.
+fn edge_from(alloc: Global, next: &mut u64, e: &PossibleEdge) -> Result<EdgeLits, AllocError>
+    ensures edge { IfOk result (λ edge. edge ≡ edge_from next.old e.now) }
+    ensures next { OnOk result (next.new ≡ next.old + edge_width e.now) }
 {
     let build = new_lit(next)?;
     let link = new_lit(next)?;
     let run = new_lit(next)?;
+    let virtuals = numbered(alloc, next, e.virtuals.values())?;
     Ok(EdgeLits {
-        parent: pair.0.duplicate(alloc)?,
-        child: pair.1.duplicate(alloc)?,
+        parent: e.parent.duplicate(alloc)?,
+        child: e.child.duplicate(alloc)?,
         build,
         link,
         run,
+        virtuals,
     })
 }
 
@@ -181,14 +183,14 @@ fn edge_from(alloc: Global, next: &mut u64, pair: &(Word, Word)) -> Result<EdgeL
 fn edges_from(
     alloc: Global,
     next: &mut u64,
-    pairs: &[(Word, Word)],
+    possible: &[PossibleEdge],
 ) -> Result<Vec<EdgeLits>, AllocError>
-    ensures edges { IfOk result (λ edges. edges.items ≡ edge_lits_from next.old pairs.now) }
-    ensures next { OnOk result (next.new ≡ next.old + 3 * length pairs.now) }
+    ensures edges { IfOk result (λ edges. edges.items ≡ edge_lits_from next.old possible.now) }
+    ensures next { OnOk result (next.new ≡ next.old + edge_widths possible.now) }
 {
     let mut edges = Vec::new(alloc);
-    for pair in pairs {
-        let edge = edge_from(alloc, next, pair)?;
+    for e in possible {
+        let edge = edge_from(alloc, next, e)?;
         edges.push(edge)?;
     }
     Ok(edges)

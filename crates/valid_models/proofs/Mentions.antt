@@ -66,7 +66,8 @@ module _ (v : ℕ → Bool) (t : Table) (path other : PathFormulas) (told : Text
       rest-alike name part,
     )
 
-    row-alike : (name virtual : Text) (wanted : Option (List Item)) (row : ProvideRow) → AllWords Alike (row_rule world name virtual wanted row)
+    -- of a row of `provides`
+    pub row-alike : (name virtual : Text) (wanted : Option (List Item)) (row : ProvideRow) → AllWords Alike (row_rule world name virtual wanted row)
     row-alike name virtual wanted row = row-alike-cases (bytes_eq row.name virtual && lists_overlap row.versions wanted)
       where
         row-alike-cases : (b : Bool) → AllWords Alike (if b then tops_rule world name row.when.specs else nowhere)

@@ -16,11 +16,12 @@ use Rattle.problem.specs.Records.{kept_dependencies}
 use Rattle.reuse_db.specs.declared.record.Record.{Record}
 use Rattle.graph_rules.specs.Kept.{external_node, installed_node}
 use Rattle.literal_table.specs.Tables.{Table}
-use Rattle.graph_formulas.specs.Facts.{GraphWord, node_has, has_origin, has_os, has_target, has_edge}
+use Rattle.reuse_db.specs.declared.record.Dependency.{Dependency}
+use Rattle.graph_formulas.specs.Facts.{GraphWord, provides_as, node_has, has_origin, has_os, has_target, has_edge}
 use Rattle.graph_formulas.specs.Lists.{◌and◌, settled_test, where_written, one_keeps, each_keeps}
 use Rattle.graph_formulas.specs.Built.{buildable_rule, version_rule, entry_rule, compiler_rule, machine_rule, provider_rule}
 use Rattle.graph_formulas.specs.Edges.{empty_kinds}
-use Rattle.graph_formulas.specs.Kept.{same_origin, installs, same_rule, kinds_rule, is_child_name, child_rule, recorded_rule, origin_rule, kept_rule}
+use Rattle.graph_formulas.specs.Kept.{joined_rule, same_origin, installs, same_rule, kinds_rule, is_child_name, child_rule, recorded_rule, origin_rule, kept_rule}
 use Rattle.graph_encoding.specs.Formulas.{PathFormulas}
 use Rattle.valid_models.proofs.Words.{AllWords, given-all, written-all, named-all, each-all, some-all}
 use Rattle.valid_models.proofs.Mentions.{Alike, provides-alike}
@@ -61,9 +62,10 @@ module _ (v : ℕ → Bool) (t : Table) (path other : PathFormulas) (told : Text
   kinds-alike name child kinds = (((refl, refl), (refl, given-all W kinds.link)), (refl, given-all W kinds.run))
 
   module _ (children : List Text) where
-    child-alike : (name : Text) (d : Text × Kinds) → AllWords W (child_rule problem children name d)
-    child-alike name d = named-all W (λ (child : Record). fact (node_has child.name (has_origin (installs d.0))) and kinds_rule name child.name d.1)
-        (λ child. (refl, kinds-alike name child.name d.1)) (record_at problem d.0)
+    child-alike : (name : Text) (d : Dependency) → AllWords W (child_rule problem children name d)
+    child-alike name d = named-all W (λ (child : Record). joined_rule name child.name d)
+        (λ child. ((refl, (kinds-alike name child.name d.kinds, refl)), each-all W (λ virtual. fact (provides_as virtual child.name)) (λ virtual. refl) d.virtuals))
+        (record_at problem d.hash)
 
     origin-alike : (name : Text) (origin : Origin) → AllWords W (origin_rule problem children name origin)
     origin-alike name Built = refl

@@ -21,7 +21,7 @@ use Rattle.graph_core.specs.declared.node.Kinds.{Kinds}
 use Rattle.problem.specs.Nodes.{has_kind}
 use Rattle.graph_core.proofs.PairLaws.{pair_total, pair_exact}
 use Rattle.literal_table.specs.Choices.{Choices, any_choice, choice_lits, passing}
-use Rattle.literal_table.specs.Tables.{Table, block_name, ends_of_edge, provider_virtual, variant_of, block_of, edge_lits_of, packages_of, provider_packages, variant_choices, variant_choices_in}
+use Rattle.literal_table.specs.Tables.{Table, block_name, ends_of_edge, provider_virtual, variant_of, block_of, edge_lits_of, packages_of, provider_packages, variant_choices, variant_choices_in, virtual_choices, edge_virtuals}
 use Rattle.literal_table.specs.declared.block.Block.{Block}
 use Rattle.literal_table.specs.declared.block.EdgeLits.{EdgeLits}
 use Rattle.literal_table.specs.declared.block.ProviderLits.{ProviderLits}
@@ -29,7 +29,7 @@ use Rattle.graph_decoding.specs.Structure.{value_lits, kind_lits}
 use Rattle.graph_decoding.proofs.LocalLaws.{below-parts}
 use Rattle.literal_table.specs.Ranges.{AreBelow, IsBlockBelow, IsTableBelow}
 use Rattle.graph_formulas.specs.Facts as facts
-use Rattle.graph_formulas.specs.Facts.{GraphWord, Fact, Variants, just_parts, some_parts, variant_parts, fact_said, said_in, kind_parts, edge_said, word_said, node_has, provides_as, has_edge, has_path}
+use Rattle.graph_formulas.specs.Facts.{GraphWord, Fact, Variants, just_parts, some_parts, variant_parts, fact_said, said_in, kind_parts, edge_said, word_said, node_has, provides_as, has_edge, has_path, has_virtual, has_virtuals}
 use Rattle.graph_encoding.specs.Formulas.{PathFormulas, PathsBelow}
 use Rattle.valid_models.specs.Joined.{WordsBelow}
 
@@ -143,6 +143,11 @@ module _ (n : ℕ) (t : Table) (below : IsTableBelow n t) where
       All-contains (λ (q : ProviderLits). AreBelow n q.packages) t.providers p below.providers
       (find_sound nat_list_cmp_total ties_are_equal provider_virtual t.providers virtual p at).0
 
+  virtuals-below : (parent child : Text) (o : Option EdgeLits) → edge_lits_of t parent child ≡ o → AreBelow n (virtual_choices o)
+  virtuals-below parent child None at = tt
+  virtuals-below parent child (Some e) at = All-contains (λ (d : EdgeLits). AreBelow n d.virtuals) t.edges e below.virtuals
+      (find_sound pair_total pair_exact ends_of_edge t.edges (parent, child) e at).0
+
   pub words-below : WordsBelow n t
   words-below m path le paths (node_has name f) =
       SaidBelow-le n m (said_in (λ b. fact_said b f) (block_of t name)) le (block-below name f (block_of t name) refl)
@@ -153,4 +158,11 @@ module _ (n : ℕ) (t : Table) (below : IsTableBelow n t) where
   words-below m path le paths (has_edge parent child kinds) =
       SaidBelow-le n m (said_in (edge_said kinds) (edge_lits_of t parent child)) le
       (ends-below parent child kinds (edge_lits_of t parent child) refl)
+  words-below m path le paths (has_virtual parent child virtual) =
+      SaidBelow-le n m (any_choice (bytes_eq virtual) (edge_virtuals t parent child)) le
+      (choice-below n (bytes_eq virtual) (edge_virtuals t parent child) (virtuals-below parent child (edge_lits_of t parent child) refl))
+  words-below m path le paths (has_virtuals parent child virtuals) =
+      SaidBelow-le n m (all_statements (just_parts (edge_virtuals t parent child) virtuals)) le
+      (all_of-below n (just_parts (edge_virtuals t parent child) virtuals)
+      (just-below n (edge_virtuals t parent child) virtuals (virtuals-below parent child (edge_lits_of t parent child) refl)))
   words-below m path le paths (has_path from to) = paths from to

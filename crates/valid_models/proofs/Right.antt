@@ -35,11 +35,12 @@ use Rattle.graph_formulas.specs.Terms.{Term, known, met, term_said, builds_node,
 use Rattle.graph_formulas.specs.Directives.{root_rule}
 use Rattle.graph_formulas.specs.Built.{buildable_rule, version_rule, compiler_rule, machine_rule, provider_rule}
 use Rattle.graph_formulas.specs.Edges.{extra_edges_rule, used_rule, of_provider}
+use Rattle.graph_formulas.specs.Together.{together_rule}
 use Rattle.graph_formulas.specs.Variants.{variants_rule}
 use Rattle.graph_formulas.specs.Kept.{kept_rule, origins_of}
 use Rattle.graph_formulas.specs.Demands.{demand_rule, directive_rule, required_rule}
-use Rattle.graph_formulas.specs.Laws.{SpellsProblem, term_formula, rule_says, has_name, virtuals_of, variants_of}
-use Rattle.graph_formulas.proofs.RulesSaid.{demand-said, all-buildable, all-version, all-compiler, all-machine, all-extra_edge, all-kept, all-provider, all-used}
+use Rattle.graph_formulas.specs.Laws.{SpellsProblem, term_formula, rule_says, has_name, virtuals_of, virtuals_on, may_use, variants_of}
+use Rattle.graph_formulas.proofs.RulesSaid.{demand-said, all-buildable, all-version, all-compiler, all-machine, all-extra_edge, all-kept, all-provider, all-used, all-together}
 use Rattle.graph_formulas.proofs.Edges.{all-true}
 use Rattle.literal_table.specs.Ranges.{IsTableBelow}
 use Rattle.graph_encoding.specs.Formulas.{PathFormulas, PathsTold, ConditionsTold, PathsBelow, MetBelow, AreRightFormulas, other_rules, part_of}
@@ -238,11 +239,11 @@ module _ (problem : Problem) (t : Table) (told : Text → Bool) (all : list_all 
                 (λ name. (refl, plainly (machine_rule problem name) (plain.machine-alike v t path exact told same problem name)))
                 (table_names t)
                 ∙ all-machine problem v exact cond_exact t g spelled,
-            row-says (λ name. where_built name (extra_edges_rule problem (names_for t) (children_of t name) name)) is_told_name
+            row-says (λ name. where_built name (extra_edges_rule problem (names_for t) (virtuals_on t name) (children_of t name) name)) is_told_name
                 (λ name e. (
                   refl,
                   terms.extra-edges-alike problem v t path exact told same cond_path cond_exact same-met name e
-                      (children_of t name),
+                      (virtuals_on t name) (children_of t name),
                 )) (table_names t) told-names
                 ∙ all-extra_edge problem v exact cond_exact t g spelled,
             row-free (λ name. where_there name (known_rule (kept_rule problem (children_of t name) (origins_of t name) name)))
@@ -256,11 +257,16 @@ module _ (problem : Problem) (t : Table) (told : Text → Bool) (all : list_all 
                 (terms.of-provider-alike problem v t path exact told same cond_path cond_exact same-met (λ p. known_rule (provider_rule problem p))
                 (λ p. plainly (provider_rule problem p) (plain.provider-alike v t path exact told same problem p))) (virtuals_of t)
                 ∙ all-provider problem v exact cond_exact t g spelled,
-            row-free (λ name. of_provider (names_for t) (used_rule problem (table_names t)) name)
-                (terms.of-provider-alike problem v t path exact told same cond_path cond_exact same-met (used_rule problem (table_names t))
-                (λ p. terms.used-alike problem v t path exact told same cond_path cond_exact same-met (table_names t) p told-names))
+            row-free (λ name. of_provider (names_for t) (used_rule (may_use t) (table_names t)) name)
+                (terms.of-provider-alike problem v t path exact told same cond_path cond_exact same-met (used_rule (may_use t) (table_names t))
+                (λ p. terms.used-alike problem v t path exact told same cond_path cond_exact same-met (may_use t) (table_names t) p))
                 (virtuals_of t)
                 ∙ all-used problem v exact cond_exact t g spelled,
+            row-free (λ name. of_provider (names_for t) (together_rule problem (names_for t)) name)
+                (terms.of-provider-alike problem v t path exact told same cond_path cond_exact same-met (together_rule problem (names_for t))
+                (λ p. terms.together-alike problem v t path exact told same cond_path cond_exact same-met p))
+                (virtuals_of t)
+                ∙ all-together problem v exact cond_exact t g spelled,
           ) refl
 
       -- ---- demands

@@ -24,11 +24,12 @@ pub right-table : (problem : Problem) (t : Table) (n : ℕ) (f : Formulas) → I
     → ((v : ℕ → Bool) (g : Content) → IsGraph g → Spells v t g → IsStructured v t)
     → ((v : ℕ → Bool) → IsStructured v t → IsGraph (decode v t))
     → ((v : ℕ → Bool) → All (λ node. All (λ w. IsInByteOrder w.1) node.variants) (decode v t).nodes)
+    → ((v : ℕ → Bool) → All (λ edge. IsInByteOrder edge.virtuals) (decode v t).edges)
     → ((v : ℕ → Bool) (g : Content) → IsGraph g → Spells v t g → decode v t ≡ g)
     → ((v w : ℕ → Bool) (g : Content) → Agree n v w → Spells v t g → Spells w t g)
     → ((asked : List Demand) (g : Content) → IsWellFormed g → valid_for asked problem g ≡ true → IsSpelled t g)
     → IsRightTable problem t n f (λ v. decode v t)
-right-table problem t n f table below same range spells spelled graph values decoded local possible = record {
+right-table problem t n f table below same range spells spelled graph values virtuals decoded local possible = record {
   table = table;
   edges_below = λ k d lt. let e = below.edges k d lt in (e.0, e.1.0, e.1.1.0);
   nodes_below = λ k d lt. (below.blocks k d lt).present;
@@ -36,7 +37,7 @@ right-table problem t n f table below same range spells spelled graph values dec
   local = local;
   reads = λ v h.
       let s : IsStructured v t = ap (list_all (eval v)) (sym same) ∙ h in
-      (spells v s, record { is_graph = graph v s; values = values v });
+      (spells v s, record { is_graph = graph v s; values = values v; virtuals = virtuals v });
   fits = λ v g s w. ap (list_all (eval v)) same ∙ spelled v g w.is_graph s;
   decoded = λ v g s w. decoded v g w.is_graph s;
   spelled = possible;

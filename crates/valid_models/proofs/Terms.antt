@@ -1,5 +1,5 @@
 -- The words of rules of directives: conditions and paths alone are said in two ways, and alike where paths are told.
-use Rattle.std.proofs.Common.{◌≡◌, refl, ◌∙◌, sym, Bool, true, false, ◌&&◌, ℕ, zero, suc, List, [], ◌∷◌, map, Option, Some, None}
+use Rattle.std.proofs.Common.{◌≡◌, refl, ◌∙◌, sym, Bool, true, false, not, ◌&&◌, ℕ, zero, suc, List, [], ◌∷◌, map, Option, Some, None}
 use Rattle.std.specs.Prelude.{◌++◌, flat_map, if◌then◌else◌, ◌==◌, slice_get, filter}
 use Rattle.std.specs.List.{list_all}
 use Rattle.std.specs.Str.{bytes_eq}
@@ -18,24 +18,27 @@ use Rattle.recipe_data.specs.OfSpecGrammar.Condition.{Condition}
 use Rattle.recipe_data.specs.declared.recipe.VariantRow.{VariantRow}
 use Rattle.recipe_data.specs.declared.recipe.DependRow.{DependRow}
 use Rattle.recipe_data.specs.declared.recipe.ConflictRow.{ConflictRow}
+use Rattle.recipe_data.specs.declared.recipe.ProvideRow.{ProvideRow}
 use Rattle.recipe_data.specs.declared.recipe.RequireRow.{RequireRow}
-use Rattle.problem.specs.Problems.{Problem, world_of, variants_at, depends_at, conflicts_at, requirements_at, required_at}
+use Rattle.problem.specs.Problems.{Problem, world_of, variants_at, depends_at, provides_at, conflicts_at, requirements_at, required_at}
 use Rattle.problem.specs.declared.demand.Demand.{Demand}
 use Rattle.problem.specs.declared.demand.Demand.TheVariants as demand
 use Rattle.literal_table.specs.Tables.{Table}
-use Rattle.graph_formulas.specs.Facts.{GraphWord, word_said, has_edge, provides_as}
+use Rattle.graph_formulas.specs.Facts.{GraphWord, word_said, has_edge, has_virtual, provides_as}
 use Rattle.graph_formulas.specs.Lists.{◌and◌, settled_test, where_written, one_keeps, each_keeps, some, last_one, just_one}
 use Rattle.graph_formulas.specs.Words.{names_for, rule_said}
-use Rattle.graph_formulas.specs.Parts.{holds_rule, asked_rule, suits_rule, provides_rule}
+use Rattle.graph_formulas.specs.Parts.{holds_rule, asked_rule, suits_rule, row_rule, provides_rule}
 use Rattle.graph_formulas.specs.Terms.{Term, known, met, term_said, known_rule, met_rule, built_rule}
-use Rattle.graph_formulas.specs.Directives.{root_rule, edge_to, edge_rule, suits_asked, constraint_rule, conflict_rule, choice_rule, requirement_rule}
-use Rattle.graph_formulas.specs.Edges.{empty_kinds, asked_child, asks_rule, may_ask, names_virtual, may_use, kind_rule, extra_edge_rule, extra_edges_rule, use_rule, used_rule, of_provider}
+use Rattle.graph_formulas.specs.Directives.{answer_rule, root_rule, edge_to, edge_rule, suits_asked, constraint_rule, conflict_rule, choice_rule, requirement_rule}
+use Rattle.graph_rules.specs.Built.{names_virtual}
+use Rattle.graph_formulas.specs.Edges.{empty_kinds, asked_child, asks_rule, may_ask, kind_rule, virtual_rule, extra_edge_rule, extra_edges_rule, use_rule, used_rule, of_provider}
+use Rattle.graph_formulas.specs.Together.{no_other_rule, by_row_rule, together_rule}
 use Rattle.graph_formulas.specs.Variants.{count_rule, definitions, variant_rule, variants_rule, allows_rule}
 use Rattle.graph_formulas.specs.Demands.{directive_rule, required_rule}
 use Rattle.graph_encoding.specs.Formulas.{PathFormulas}
 use Rattle.valid_models.specs.Targets.{spec_names, condition_names, choices_at, conditions_at, specs_at, targets_at}
-use Rattle.valid_models.proofs.Words.{AllWords, said-alike, given-all, written-all, named-all, each-all, some-all, each-if, some-if, just-if, last-if}
-use Rattle.valid_models.proofs.Mentions.{Alike, all-flat, asked-alike, suits-alike, holds-alike}
+use Rattle.valid_models.proofs.Words.{AllWords, said-alike, given-all, unless-all, written-all, named-all, each-all, some-all, each-if, some-if, just-if, last-if}
+use Rattle.valid_models.proofs.Mentions.{Alike, all-flat, row-alike, asked-alike, suits-alike, holds-alike}
 
 -- a test of the filtered
 pub all-filtered : {X : Type 0} (p q : X → Bool) (xs : List X) → list_all p xs ≡ true → list_all p (filter q xs) ≡ true
@@ -90,10 +93,15 @@ module _ (problem : Problem) (v : ℕ → Bool) (t : Table) (path other : PathFo
   edge-alike name row e = (
     same_met name row.when e,
     known-alike (edge_to problem packages name row)
-        (named-all W (λ asked. asked_rule (world_of problem) packages asked (λ child. fact (has_edge name child row.kinds)))
-        (λ asked. asked-alike v t path other told same (world_of problem) packages asked (λ child. fact (has_edge name child row.kinds))
-        (λ child. refl)) row.part.name),
+        (named-all W (λ asked. asked_rule (world_of problem) packages asked (answer_rule problem packages name row asked))
+        (λ asked. asked-alike v t path other told same (world_of problem) packages asked (answer_rule problem packages name row asked)
+        (λ child. answered asked child (is_virtual problem.recipes asked))) row.part.name),
   )
+    where
+      answered : (asked child : Text) (b : Bool) → AllWords W (if b then fact (has_edge name child row.kinds) and fact (has_virtual name child asked)
+          else fact (has_edge name child row.kinds))
+      answered asked child true = (refl, refl)
+      answered asked child false = refl
 
   constraint-alike : (name : Text) (row : DependRow) → is_told_condition row.when ≡ true
       → AllWords TermAlike (constraint_rule problem packages name row)
@@ -250,35 +258,54 @@ module _ (problem : Problem) (v : ℕ → Bool) (t : Table) (path other : PathFo
         asked-all asked true = refl
         asked-all asked false = given-all W (bytes_eq asked child)
 
-    pub extra-edges-alike : (children : List Text) → AllWords TermAlike (extra_edges_rule problem packages children name)
-    extra-edges-alike children = each-all TermAlike (extra_edge_rule problem packages name)
-        (λ child. (
-          (
-            kind-alike child (record empty_kinds { build = true }) (λ kinds. kinds.build),
-            kind-alike child (record empty_kinds { link = true })
-                (λ kinds. kinds.link),
-          ),
-          kind-alike child (record empty_kinds { run = true }) (λ kinds. kinds.run),
-        )) children
-
-    pub use-alike : (p : Text × Text) → AllWords TermAlike (use_rule problem p name)
-    use-alike p = (
-      (refl, refl),
-      some-if TermAlike (λ row. met_rule name row.when) (λ row. is_told_condition row.when) (λ row h. same_met name row.when h)
-          (filter (names_virtual p.0) (depends_at problem name))
-          (all-filtered (λ row. is_told_condition row.when) (names_virtual p.0) (depends_at problem name) rows.depends),
+    virtual-alike : (child virtual : Text) → AllWords TermAlike (virtual_rule problem packages name child virtual)
+    virtual-alike child virtual = (
+      refl,
+      (
+        refl,
+        some-if TermAlike (λ row. met_rule name row.when) (λ row. is_told_condition row.when) (λ row h. same_met name row.when h)
+            (filter (names_virtual problem virtual) (depends_at problem name))
+            (all-filtered (λ row. is_told_condition row.when) (names_virtual problem virtual) (depends_at problem name) rows.depends),
+      ),
     )
 
-  pub used-alike : (names : List Text) (p : Text × Text) → list_all (λ name. list_all told (targets_at problem t name)) names ≡ true
-      → AllWords TermAlike (used_rule problem names p)
-  used-alike names p e = (
-    given-all TermAlike (is_virtual problem.recipes p.0),
-    some-if TermAlike (use_rule problem p) (λ name. list_all told (targets_at problem t name)) (λ name h. use-alike name h p)
-        (filter (may_use problem p.0) names)
-        (all-filtered (λ name. list_all told (targets_at problem t name)) (may_use problem p.0) names e),
-  )
+    pub extra-edges-alike : (virtuals : Text → List Text) (children : List Text)
+        → AllWords TermAlike (extra_edges_rule problem packages virtuals children name)
+    extra-edges-alike virtuals children = each-all TermAlike (λ child. extra_edge_rule problem packages (virtuals child) name child)
+        (λ child. (
+          (
+            (
+              kind-alike child (record empty_kinds { build = true }) (λ kinds. kinds.build),
+              kind-alike child (record empty_kinds { link = true })
+                  (λ kinds. kinds.link),
+            ),
+            kind-alike child (record empty_kinds { run = true }) (λ kinds. kinds.run),
+          ),
+          each-all TermAlike (virtual_rule problem packages name child) (virtual-alike child) (virtuals child),
+        )) children
+
+  pub used-alike : (may : Text × Text → Text → Bool) (names : List Text) (p : Text × Text) → AllWords TermAlike (used_rule may names p)
+  used-alike may names p = some-all TermAlike (use_rule p) (λ name. refl) (filter (may p) names)
 
   pub of-provider-alike : (rule : Text × Text → Proposition Term) → ((p : Text × Text) → AllWords TermAlike (rule p)) → (virtual : Text)
       → AllWords TermAlike (of_provider packages rule virtual)
   of-provider-alike rule h virtual = each-all TermAlike (λ p. if_so (known_rule (fact (provides_as virtual p))) (rule (virtual, p)))
       (λ p. (refl, h (virtual, p))) (packages virtual)
+
+  -- ---- providers by directives that name several virtuals
+  no_other-alike : (name virtual : Text) → AllWords TermAlike (no_other_rule packages name virtual)
+  no_other-alike name virtual = of-provider-alike (λ q. known_rule (settled_test (bytes_eq q.1 name)))
+      (λ q. known-alike (settled_test (bytes_eq q.1 name)) (given-all W (bytes_eq q.1 name))) virtual
+
+  by_row-alike : (p : Text × Text) (row : ProvideRow) → AllWords TermAlike (by_row_rule problem packages p row)
+  by_row-alike p row = (
+    known-alike (row_rule (world_of problem) p.1 p.0 None row) (row-alike v t path other told same (world_of problem) p.1 p.0 None row),
+    each-all TermAlike (λ listed. no_other_rule packages p.1 listed.name) (λ listed. no_other-alike p.1 listed.name)
+        (filter (λ listed. listed.number == row.number) (provides_at problem p.1)),
+  )
+
+  pub together-alike : (p : Text × Text) → AllWords TermAlike (together_rule problem packages p)
+  together-alike p =
+      let rows = filter (λ row. bytes_eq row.name p.0) (provides_at problem p.1) in
+      unless-all TermAlike (not problem.settings.provided_together) (each_keeps (by_row_rule problem packages p) rows)
+      (each-all TermAlike (by_row_rule problem packages p) (by_row-alike p) rows)

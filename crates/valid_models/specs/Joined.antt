@@ -18,10 +18,11 @@ use Rattle.graph_formulas.specs.Words.{names_for, rule_said}
 use Rattle.graph_formulas.specs.Terms.{Term, builds_node, known_rule, where_built, where_there}
 use Rattle.graph_formulas.specs.Built.{buildable_rule, version_rule, compiler_rule, machine_rule, provider_rule}
 use Rattle.graph_formulas.specs.Edges.{extra_edges_rule, used_rule, of_provider}
+use Rattle.graph_formulas.specs.Together.{together_rule}
 use Rattle.graph_formulas.specs.Variants.{variants_rule}
 use Rattle.graph_formulas.specs.Kept.{kept_rule, origins_of}
 use Rattle.graph_formulas.specs.Demands.{demand_rule}
-use Rattle.graph_formulas.specs.Laws.{term_formula, has_name, virtuals_of, variants_of}
+use Rattle.graph_formulas.specs.Laws.{term_formula, has_name, virtuals_of, virtuals_on, may_use, variants_of}
 use Rattle.literal_table.specs.Ranges.{IsTableBelow}
 use Rattle.graph_encoding.specs.Formulas.{Formulas, PathFormulas, PathsBelow, AreRightFormulas}
 use Rattle.graph_encoding.specs.Encodings.{told_in}
@@ -55,10 +56,11 @@ module _ (problem : Problem) (t : Table) where
       ∷ ((λ name. where_built name (variants_rule problem (variants_of t name) name)), table_names t)
       ∷ ((λ name. where_built name (known_rule (compiler_rule problem name))), table_names t)
       ∷ ((λ name. where_built name (known_rule (machine_rule problem name))), table_names t)
-      ∷ ((λ name. where_built name (extra_edges_rule problem (names_for t) (children_of t name) name)), table_names t)
+      ∷ ((λ name. where_built name (extra_edges_rule problem (names_for t) (virtuals_on t name) (children_of t name) name)), table_names t)
       ∷ ((λ name. where_there name (known_rule (kept_rule problem (children_of t name) (origins_of t name) name))), table_names t)
       ∷ ((λ name. of_provider (names_for t) (λ p. known_rule (provider_rule problem p)) name), virtuals_of t)
-      ∷ ((λ name. of_provider (names_for t) (used_rule problem (table_names t)) name), virtuals_of t)
+      ∷ ((λ name. of_provider (names_for t) (used_rule (may_use t) (table_names t)) name), virtuals_of t)
+      ∷ ((λ name. of_provider (names_for t) (together_rule problem (names_for t)) name), virtuals_of t)
       ∷ []
 
   abbrev pub row_said : PathFormulas → (Text → Condition → Statement) → ((Text → Proposition Term) × List Text) → Statement

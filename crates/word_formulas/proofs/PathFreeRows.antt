@@ -11,11 +11,11 @@ use Rattle.graph_core.specs.Graphs.{Text}
 use Rattle.literal_table.specs.Tables.{Table}
 use Rattle.problem.specs.Problems.{Problem, world_of}
 use Rattle.virtuals.specs.Virtuals.{is_virtual}
-use Rattle.graph_formulas.specs.Facts.{GraphWord, word_said, provides_as, has_edge}
+use Rattle.graph_formulas.specs.Facts.{GraphWord, word_said, provides_as, has_edge, has_virtual}
 use Rattle.graph_formulas.specs.Lists.{settled_test, one_keeps, some}
 use Rattle.graph_formulas.specs.Parts.{there_rule, asked_rule, suits_rule, provides_rule, rest_rule, meets_rule}
 use Rattle.graph_formulas.specs.Words.{rule_said}
-use Rattle.graph_formulas.specs.Directives.{edge_to, suits_asked}
+use Rattle.graph_formulas.specs.Directives.{answer_rule, edge_to, suits_asked}
 use Rattle.graph_formulas.specs.Edges.{asked_child}
 use Rattle.word_formulas.specs.Asked.{NodeRule, asks_child}
 use Rattle.word_formulas.specs.Builders.{no_paths, plain_said}
@@ -61,8 +61,15 @@ module _ (path : Text → Text → Statement) (table : Table) where
   pub edge-agree : (problem : Problem) (packages : Text → List Text) (name : Text) (row : DependRow)
       → rule_said path table (edge_to problem packages name row) ≡ plain_said table (edge_to problem packages name row)
   edge-agree problem packages name row =
-      named-agree (λ asked. asked_rule (world_of problem) packages asked (λ child. fact (has_edge name child row.kinds)))
-      (λ asked. asked-agree (world_of problem) packages asked (λ child. fact (has_edge name child row.kinds)) (λ n. refl)) row.part.name
+      named-agree (λ asked. asked_rule (world_of problem) packages asked (answer_rule problem packages name row asked))
+      (λ asked. asked-agree (world_of problem) packages asked (answer_rule problem packages name row asked)
+      (answered asked (is_virtual problem.recipes asked))) row.part.name
+    where
+      answered : (asked : Text) (b : Bool) (child : Text)
+          → in_words f (if b then both_of (fact (has_edge name child row.kinds)) (fact (has_virtual name child asked)) else fact (has_edge name child row.kinds))
+          ≡ in_words g (if b then both_of (fact (has_edge name child row.kinds)) (fact (has_virtual name child asked)) else fact (has_edge name child row.kinds))
+      answered asked true child = refl
+      answered asked false child = refl
 
   pub suits_asked-agree : (problem : Problem) (packages : Text → List Text) (row : DependRow)
       → rule_said path table (suits_asked problem packages row) ≡ plain_said table (suits_asked problem packages row)

@@ -2,20 +2,19 @@
 ghost use Rattle.std.specs.Prelude.{◌≡◌, IfOk};
 ghost use Rattle.clause_formulas.specs.Rules.{fact};
 ghost use Rattle.clause_formulas.specs.Statements.{implication_of};
-ghost use Rattle.graph_formulas.specs.Facts.{has_edge};
+ghost use Rattle.graph_formulas.specs.Facts.{has_edge, has_virtual};
 ghost use Rattle.graph_formulas.specs.Parts.{suits_rule};
 ghost use Rattle.graph_formulas.specs.Words.{names_for};
-ghost use Rattle.graph_formulas.specs.Directives.{edge_to, suits_asked};
+ghost use Rattle.graph_formulas.specs.Directives.{answer_rule, edge_to, suits_asked};
 ghost use Rattle.word_formulas.specs.Builders.{plain_said};
 
 use crate::asked_nodes::asked_formula;
-use crate::edges::has_edge;
+use crate::edges::{has_edge, has_virtual};
 use crate::facts::given;
 use crate::parts::{meets_formula, rest_formula};
 use crate::virtual_nodes::provides_formula;
 use clause_formulas::Formula;
 use condition_rules::World;
-use graph_core::Kinds;
 use literal_table::LiteralTable;
 use plain_data::Word;
 use problem::Problem;
@@ -23,21 +22,31 @@ use recipe_data::DependRow;
 use spec_grammar::Part;
 use std::alloc::{AllocError, Global};
 
-/// An edge with these kinds goes to the child.
-fn child_formula(
+/// The edge to the child has the kinds of the row, and names the virtual that it asks for.
+fn answer_formula(
     alloc: Global,
     table: &LiteralTable,
+    problem: &Problem,
     name: &str,
-    kinds: &Kinds,
+    row: &DependRow,
+    asked: &Word,
     child: &Word,
 ) -> Result<Formula, AllocError>
     ensures { IfOk result (λ formula. formula
-        ≡ plain_said table.now (fact (has_edge name.now child.now kinds.now))) }
+        ≡ plain_said table.now (answer_rule problem.now (names_for table.now) name.now row.now
+        asked.now child.now)) }
 {
-    has_edge(alloc, table, name, child.as_str(), kinds)
+    let world = problem.world();
+    let edge = has_edge(alloc, table, name, child.as_str(), &row.kinds)?;
+    if !world.is_virtual(asked.as_str()) {
+        return Ok(edge);
+    }
+    let names = has_virtual(alloc, table, name, child.as_str(), asked.as_str())?;
+    Formula::both(alloc, edge, names)
 }
 
-/// An edge with the kinds of the row goes to the node that it asks for.
+/// An edge with the kinds of the row, which names the virtual that it asks for, goes to the node
+/// that it asks for.
 pub fn edge_to_formula(
     alloc: Global,
     table: &LiteralTable,
@@ -51,7 +60,7 @@ pub fn edge_to_formula(
     let world = problem.world();
     match &row.part.name {
         Some(asked) => asked_formula(alloc, table, &world, asked, |child| {
-            child_formula(alloc, table, name, &row.kinds, child)
+            answer_formula(alloc, table, problem, name, row, asked, child)
         }),
         None => Ok(given(alloc, false)),
     }

@@ -27,7 +27,7 @@ pub use compilers::compiler_formula;
 pub use directives::{
     constraint_formula, edge_formula, edge_to_formula, suits_asked_formula, suits_formula,
 };
-pub use edges::has_edge;
+pub use edges::{has_edge, has_virtual};
 pub use extra_edges::asks_formula;
 pub use facts::{
     compiler_passes, given, has_variant, is_there, origin_passes, os_passes, prefix_passes,
@@ -41,4 +41,4 @@ pub use node_rules::{
 pub use parts::meets_formula;
 pub use theorems::{plain_laws, row_laws};
 pub use variants::allows_formula;
-pub use virtual_nodes::provides_formula;
+pub use virtual_nodes::{provide_row_formula, provides_formula};

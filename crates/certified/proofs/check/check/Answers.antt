@@ -14,3 +14,8 @@ returns-clause-exact g c =
     let e = c.finish.ensures ∙ ap finish_on (c.in_ok-feed.ensures
     ∙ ap (λ (p : Progress). run_lines p lines) c.in_ok-checker.ensures.start) in
     ((λ q. a.0 (sym e ∙ q)), (λ l. e ∙ a.1 l))
+
+pub returns-clause-steps : goal.returns-clause-steps
+returns-clause-steps g c =
+    c.finish.ensures ∙ ap finish_on (c.in_ok-feed.ensures
+    ∙ ap (λ (p : Progress). run_lines p c.args.lines.now) c.in_ok-checker.ensures.start)

@@ -1,4 +1,4 @@
-use Rattle.graph_formulas.proofs.RulesSaid.{all-buildable, all-version, all-variant, all-compiler, all-machine, all-extra_edge, all-kept, all-provider, all-used, all-no_cycle, all-reachable}
+use Rattle.graph_formulas.proofs.RulesSaid.{all-buildable, all-version, all-variant, all-compiler, all-machine, all-extra_edge, all-kept, all-provider, all-used, all-together, all-no_cycle, all-reachable}
 use Rattle.graph_formulas.proofs.rule_theorems.structure_laws.Goals as goal
 
 pub returns : goal.returns
@@ -12,6 +12,7 @@ returns c = record {
   kept = all-kept;
   provider = all-provider;
   used = all-used;
+  together = all-together;
   no_cycle = all-no_cycle;
   reachable = all-reachable;
 }

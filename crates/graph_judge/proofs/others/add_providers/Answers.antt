@@ -5,6 +5,6 @@ use Rattle.graph_judge.proofs.others.add_providers.Goals as goal
 
 pub loop-provider-preserved : goal.loop-provider-preserved
 loop-provider-preserved c =
-    flat_step (λ (p : Text × Text). unless (provider_test c.args.used c.args.problem.now c.args.graph.now p) (p.0, 0)) c.args.providers.now
+    flat_step (λ (p : Text × Text). unless (provider_test c.args.rule c.args.problem.now c.args.graph.now p) (p.0, 0)) c.args.providers.now
     c.loop-provider.provider-index c.provider-item.result _ _ _ c.loop-provider-test.true c.provider-item.is
-    (rw (c.as_str.ensures, c.in_ok-kept.ensures) at c.in_ok-add_unless.ensures) c.loop-provider.invariant
+    (rw (c.as_str.ensures, c.provider_test-kept.ensures) at c.in_ok-add_unless.ensures) c.loop-provider.invariant

@@ -7,5 +7,5 @@ use Rattle.graph_judge.proofs.others.provider_places.Goals as goal
 
 pub returns : goal.returns
 returns c = rw (c.new-places.ensures.items, c.providers-providers.ensures.providers, c.graph.ensures) at c.in_ok-add_providers.ensures
-    ∙ flat_unless (provider_test c.args.used c.args.problem.now c.args.graph.now) (λ (p : Text × Text). let q : Place = (p.0, 0) in
+    ∙ flat_unless (provider_test c.args.rule c.args.problem.now c.args.graph.now) (λ (p : Text × Text). let q : Place = (p.0, 0) in
     q) c.args.graph.now.providers

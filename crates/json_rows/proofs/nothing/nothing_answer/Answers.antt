@@ -29,6 +29,7 @@ nothing-writable g records e = subst (λ it. IsWritable it records) (sym e) (rec
   forms = λ k d h. absurd (omega (arith, h));
   virtuals = λ k d h. absurd (omega (arith, h));
   kinds = λ k d h. absurd (omega (arith, h));
+  named = λ k d h. absurd (omega (arith, h));
   installed = λ k d h. absurd (omega (arith, h));
 })
 

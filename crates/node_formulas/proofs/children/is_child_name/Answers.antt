@@ -1,7 +1,7 @@
 use Rattle.std.proofs.Common.{◌∙◌, ◌||◌}
 use Rattle.std.specs.Str.{bytes_eq}
 use Rattle.graph_core.specs.Graphs.{Text}
-use Rattle.graph_core.specs.declared.node.Kinds.{Kinds}
+use Rattle.reuse_db.specs.declared.record.Dependency.{Dependency}
 use Rattle.condition_rules.specs.Words.{is_some_and}
 use Rattle.problem.specs.Problems.{record_at}
 use Rattle.node_formulas.proofs.Steps.{any-filter}
@@ -9,5 +9,5 @@ use Rattle.node_formulas.proofs.children.is_child_name.Goals as goal
 
 pub returns : goal.returns
 returns c = rw c.as_slice.ensures at c.some_named.ensures
-    ∙ any-filter (λ (d : Text × Kinds). d.1.link || d.1.run)
-    (λ d. is_some_and (record_at c.args.problem.now d.0) (λ child. bytes_eq child.name c.args.name.now)) c.args.entry.now.dependencies
+    ∙ any-filter (λ (d : Dependency). d.kinds.link || d.kinds.run)
+    (λ d. is_some_and (record_at c.args.problem.now d.hash) (λ child. bytes_eq child.name c.args.name.now)) c.args.entry.now.dependencies

@@ -1,10 +1,11 @@
 use Rattle.std.proofs.Common.{ap, ◌∙◌, Option}
 use Rattle.graph_core.specs.Graphs.{Text}
+use Rattle.graph_formulas.specs.Kept.{joined_rule}
 use Rattle.graph_formulas.specs.Lists.{one_keeps}
 use Rattle.reuse_db.specs.declared.record.Record.{Record}
 use Rattle.word_formulas.specs.Builders.{plain_said}
 use Rattle.word_formulas.proofs.Steps.{ok-same}
-use Rattle.node_formulas.specs.Attributes.{joined_rule, dependency_rule}
+use Rattle.node_formulas.specs.Attributes.{dependency_rule}
 use Rattle.node_formulas.proofs.kept.child_formula.Goals as goal
 
 pub returns-in-Some : goal.returns-in-Some

@@ -5,5 +5,5 @@ use Rattle.reuse_db.specs.Canonical.{dependency_data, dependency_members}
 use Rattle.reuse_db.proofs.text.dependencies_by_hash.Given as goal
 
 abbrev pub invariant-loop-dependency : goal.invariant-loop-dependency
-invariant-loop-dependency l = fold (λ ms d. put d.0 (dependency_data d) ms) (members_view l.map.entries)
+invariant-loop-dependency l = fold (λ ms d. put d.hash (dependency_data d) ms) (members_view l.map.entries)
     (drop l.dependency-index l.dependencies) ≡ dependency_members l.dependencies

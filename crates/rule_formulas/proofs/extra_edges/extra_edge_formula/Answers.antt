@@ -3,7 +3,9 @@ use Rattle.clause_formulas.specs.Statements.{both_statements}
 use Rattle.clause_formulas.specs.Rules.{Proposition}
 use Rattle.graph_formulas.specs.Words.{names_for}
 use Rattle.graph_formulas.specs.Terms.{Term}
-use Rattle.graph_formulas.specs.Edges.{empty_kinds, kind_rule, extra_edge_rule}
+use Rattle.graph_formulas.specs.Edges.{empty_kinds, kind_rule, virtual_rule, extra_edge_rule}
+use Rattle.graph_formulas.specs.Laws.{virtuals_on}
+use Rattle.graph_formulas.specs.Lists.{each_keeps}
 use Rattle.word_formulas.proofs.Steps.{ok-same, ok-is, both-same}
 use Rattle.rule_formulas.specs.Terms.{plain_term}
 use Rattle.rule_formulas.proofs.extra_edges.extra_edge_formula.Goals as goal
@@ -26,6 +28,10 @@ returns g c =
     (said (kind_rule problem (names_for table) (record empty_kinds { run = true }) (λ kinds. kinds.run) name child)) c.in_ok-run.was
     c.kind_formula-3.ensures in
     let most = c.in_ok-most.ensures ∙ both-same _ _ _ _ build link in
-    ok-same c.both-2.result (both_statements c.in_ok-most.most c.in_ok-run.run')
-    (said (extra_edge_rule problem (names_for table) name child))
-    (both-same _ _ _ _ most run) c.both-2.ensures
+    let kinds = c.in_ok-kinds.ensures ∙ both-same _ _ _ _ most run in
+    let virtuals = ok-is c.virtuals_formula.result c.in_ok-virtuals.virtuals
+    (said (each_keeps (virtual_rule problem (names_for table) name child) (virtuals_on table name child)))
+    c.in_ok-virtuals.was c.virtuals_formula.ensures in
+    ok-same c.both-3.result (both_statements c.in_ok-kinds.kinds c.in_ok-virtuals.virtuals)
+    (said (extra_edge_rule problem (names_for table) (virtuals_on table name child) name child))
+    (both-same _ _ _ _ kinds virtuals) c.both-3.ensures

@@ -7,6 +7,7 @@ use Rattle.graph_formulas.specs.Lists.{each_keeps}
 use Rattle.graph_formulas.specs.Words.{names_for}
 use Rattle.graph_formulas.specs.Terms.{term_said}
 use Rattle.graph_formulas.specs.Edges.{extra_edge_rule}
+use Rattle.graph_formulas.specs.Laws.{virtuals_on}
 use Rattle.literal_table.specs.Tables.{children_of}
 use Rattle.word_formulas.specs.Builders.{no_paths}
 use Rattle.word_formulas.proofs.Steps.{ok-same, each-said}
@@ -22,9 +23,9 @@ returns g c =
     let name = c.args.name.now in
     let p = λ (e : EdgeLits). bytes_eq e.parent name in
     let child = λ (e : EdgeLits). e.child in
-    let rule = λ (n : Text). extra_edge_rule problem (names_for table) name n in
-    let said = λ (n : Text). plain_term table condition (extra_edge_rule problem (names_for table) name n) in
-    let formula = λ (e : EdgeLits). plain_term table condition (extra_edge_rule problem (names_for table) name e.child) in
+    let rule = λ (n : Text). extra_edge_rule problem (names_for table) (virtuals_on table name n) name n in
+    let said = λ (n : Text). plain_term table condition (extra_edge_rule problem (names_for table) (virtuals_on table name n) name n) in
+    let formula = λ (e : EdgeLits). plain_term table condition (extra_edge_rule problem (names_for table) (virtuals_on table name e.child) name e.child) in
     ok-same c.each_where.result (all_statements (map formula (filter p c.edges.result.now)))
     (plain_term table condition (each_keeps rule (children_of table name)))
     (ap (λ (l : List EdgeLits). all_statements (map formula (filter p l))) c.edges.ensures.edges

@@ -12,7 +12,7 @@ pub returns-then-is_virtual : goal.returns-then-is_virtual
 returns-then-is_virtual c =
     let world = c.args.world.now in
     let child = c.args.child.now in
-    c.may_provide.ensures
+    c.offers.ensures
     ∙ ap (λ l. list_any (λ (choice : Text × Lit). bytes_eq child choice.0) l) (c.packages.ensures ∙ ap (packages_of c.args.table.now) c.as_str-then-is_virtual.ensures)
     ∙ asked-virtual c.args.table.now world child c.args.asked.now (sym (ap (is_virtual world.recipes) c.as_str.ensures) ∙ sym c.is_virtual.ensures ∙ c.if-is_virtual.true)
 

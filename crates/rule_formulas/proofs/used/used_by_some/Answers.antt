@@ -1,31 +1,28 @@
-use Rattle.std.proofs.Common.{ap, ◌∙◌, filter}
-use Rattle.clause_formulas.specs.Statements.{both_statements}
-use Rattle.condition_rules.specs.Worlds.{World}
+use Rattle.std.proofs.Common.{rules, sym, ap, ◌∙◌, map, filter, List}
+use Rattle.clause_formulas.specs.Statements.{any_statement}
 use Rattle.graph_core.specs.Graphs.{Text}
-use Rattle.problem.specs.Problems.{world_of}
-use Rattle.virtuals.specs.Virtuals.{is_virtual}
-use Rattle.graph_formulas.specs.Lists.{some}
+use Rattle.literal_table.specs.Tables.{block_name, table_names}
+use Rattle.literal_table.specs.declared.block.Block.{Block}
+use Rattle.graph_formulas.specs.Laws.{may_use}
 use Rattle.graph_formulas.specs.Terms.{term_said}
-use Rattle.graph_formulas.specs.Edges.{may_use, use_rule, used_rule}
-use Rattle.literal_table.specs.Tables.{table_names}
-use Rattle.word_formulas.specs.Builders.{no_paths, given_said}
-use Rattle.word_formulas.proofs.Steps.{ok-same, ok-is, given-said, both-same}
-use Rattle.rule_formulas.specs.Terms.{plain_term}
+use Rattle.graph_formulas.specs.Edges.{use_rule, used_rule}
+use Rattle.word_formulas.specs.Builders.{no_paths}
+use Rattle.word_formulas.proofs.Steps.{ok-same, some-said}
+use Rattle.rule_formulas.specs.Terms.{plain_term, no_conditions}
+use Rattle.rule_formulas.proofs.Lists.{filter-mapped}
 use Rattle.rule_formulas.proofs.used.used_by_some.Goals as goal
 
 pub returns : goal.returns
-returns g c =
+returns c =
     let table = c.args.table.now in
-    let problem = c.args.problem.now in
-    let condition = g.C.MetConditions.condition_of c.args.conditions.now in
-    let virtual_name = c.args.virtual_name.now in
-    let provider = c.args.provider.now in
-    let uses = plain_term table condition (some (use_rule problem (virtual_name, provider))
-    (filter (may_use problem virtual_name) (table_names table))) in
-    let virtual_is = λ (w : World) (n : Text). is_virtual w.recipes n in
-    let same = c.is_virtual.ensures ∙ ap (λ (w : World). virtual_is w c.as_str.result.now) c.world-world.ensures ∙ ap (λ (n : Text). virtual_is (world_of problem) n) c.as_str.ensures in
-    let known = c.given-is_virtual.ensures ∙ ap given_said same ∙ given-said (term_said no_paths condition table) (is_virtual problem.recipes virtual_name) in
-    let used = ok-is c.some_use.result c.in_ok-used.used uses c.in_ok-used.was c.some_use.ensures in
-    ok-same c.both.result (both_statements c.given-is_virtual.result c.in_ok-used.used)
-    (plain_term table condition (used_rule problem (table_names table) (virtual_name, provider)))
-    (both-same _ _ _ _ known used) c.both.ensures
+    let p : Text × Text = (c.args.virtual_name.now, c.args.provider.now) in
+    let rule = λ (name : Text). use_rule p name in
+    let said = λ (name : Text). plain_term table no_conditions (use_rule p name) in
+    let may = λ (b : Block). may_use table p b.name in
+    let formula = λ (b : Block). plain_term table no_conditions (use_rule p b.name) in
+    ok-same c.some_where.result (any_statement (map formula (filter may c.blocks-2.result.now)))
+    (plain_term table no_conditions (used_rule (may_use table) (table_names table) p))
+    (ap (λ (l : List Block). any_statement (map formula (filter may l))) c.blocks-2.ensures.blocks
+    ∙ ap any_statement (filter-mapped said block_name (may_use table p) table.blocks)
+    ∙ sym (some-said (term_said no_paths no_conditions table) rule (filter (may_use table p) (table_names table))))
+    (c.some_where.ensures may formula (λ x b says. search rules) (λ x r says. search rules))

@@ -6,30 +6,29 @@ use Rattle.graph_core.specs.Graphs.{Text}
 use Rattle.literal_table.specs.Tables.{packages_of, table_names}
 use Rattle.graph_formulas.specs.Facts.{provides_as}
 use Rattle.graph_formulas.specs.Words.{names_for}
+use Rattle.graph_formulas.specs.Laws.{may_use}
 use Rattle.graph_formulas.specs.Terms.{term_said, known_rule}
 use Rattle.graph_formulas.specs.Edges.{used_rule, of_provider}
 use Rattle.word_formulas.specs.Builders.{no_paths}
 use Rattle.word_formulas.proofs.Steps.{ok-same, each-said}
-use Rattle.rule_formulas.specs.Terms.{plain_term}
+use Rattle.rule_formulas.specs.Terms.{plain_term, no_conditions}
 use Rattle.rule_formulas.proofs.Lists.{over-mapped}
 use Rattle.rule_formulas.proofs.used.used_formula.Goals as goal
 
 pub returns : goal.returns
-returns g c =
+returns c =
     let table = c.args.table.now in
-    let problem = c.args.problem.now in
-    let condition = g.C.MetConditions.condition_of c.args.conditions.now in
     let virtual_name = c.args.virtual_name.now in
     let rule = λ (n : Text). if_so (known_rule (fact (provides_as virtual_name n)))
-    (used_rule problem (table_names table) (virtual_name, n)) in
-    let said = λ (n : Text). plain_term table condition
-    (if_so (known_rule (fact (provides_as virtual_name n))) (used_rule problem (table_names table) (virtual_name, n))) in
-    let formula = λ (choice : Text × Lit). plain_term table condition
-    (if_so (known_rule (fact (provides_as virtual_name choice.0))) (used_rule problem (table_names table) (virtual_name, choice.0))) in
+    (used_rule (may_use table) (table_names table) (virtual_name, n)) in
+    let said = λ (n : Text). plain_term table no_conditions
+    (if_so (known_rule (fact (provides_as virtual_name n))) (used_rule (may_use table) (table_names table) (virtual_name, n))) in
+    let formula = λ (choice : Text × Lit). plain_term table no_conditions
+    (if_so (known_rule (fact (provides_as virtual_name choice.0))) (used_rule (may_use table) (table_names table) (virtual_name, choice.0))) in
     let first = λ (choice : Text × Lit). choice.0 in
     ok-same c.each.result (all_statements (map formula c.packages.result.now))
-    (plain_term table condition (of_provider (names_for table) (used_rule problem (table_names table)) virtual_name))
+    (plain_term table no_conditions (of_provider (names_for table) (used_rule (may_use table) (table_names table)) virtual_name))
     (ap (λ (l : List (Text × Lit)). all_statements (map formula l)) (c.packages.ensures ∙ ap (packages_of table) c.as_str.ensures)
     ∙ ap all_statements (over-mapped said first (packages_of table virtual_name))
-    ∙ sym (each-said (term_said no_paths condition table) rule (names_for table virtual_name)))
+    ∙ sym (each-said (term_said no_paths no_conditions table) rule (names_for table virtual_name)))
     (c.each.ensures formula (λ x r says. search rules))

@@ -10,6 +10,10 @@ returns c = record {
   used = refl;
   unused = refl;
   unused_at = refl;
+  apart = refl;
+  together = refl;
+  together_at = refl;
+  both_of_one = refl;
   cycle = refl;
   cycle_at =
       refl;

@@ -8,7 +8,7 @@ use Rattle.json_readers.specs.Faults.{pointed}
 use Rattle.target_table.specs.declared.fault.TargetFault.TheVariants.{CyclicTargets}
 use Rattle.settings_reader.specs.Lists.{os_list, target_at, target_list}
 use Rattle.settings_reader.specs.Order.{head_of, tail_of}
-use Rattle.site_settings.specs.Standard.{compilers, conflict_budget, os, platform, targets}
+use Rattle.site_settings.specs.Standard.{compilers, conflict_budget, os, platform, provided_together, targets}
 use Rattle.settings_reader.specs.Told.{misread}
 use Rattle.settings_reader.specs.declared.stop.What.TheVariants.{Empty, Targets, UnknownKey}
 use Rattle.settings_reader.proofs.theorems.worked_settings.Goals as goal
@@ -28,7 +28,7 @@ returns-clause-standard c = record {
               told = refl;
               goes =
                   record {
-                    step = Ok (record { compilers = compilers; providers = [] });
+                    step = Ok (record { compilers = compilers; providers = []; provided_together = provided_together });
                     told = refl;
                     goes =
                         record { step = Ok []; told = record { inner = Ok []; right = refl; is = refl }; goes = refl };

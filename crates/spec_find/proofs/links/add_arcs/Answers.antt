@@ -2,7 +2,7 @@ use Rattle.std.proofs.Common.{◌∙◌, ◌++◌, [], sym, subst, map, filter, 
 use Rattle.std.proofs.lemmas.List.{append-nil, take_all}
 use Rattle.reachability.specs.Places.{AreNumbered}
 use Rattle.graph_core.specs.Graphs.{Text}
-use Rattle.graph_core.specs.declared.node.Kinds.{Kinds}
+use Rattle.reuse_db.specs.declared.record.Dependency.{Dependency}
 use Rattle.reuse_db.specs.Databases.{hashes_of}
 use Rattle.spec_find.specs.Found.{is_kept}
 use Rattle.spec_find.specs.Marks.{flipped}
@@ -52,5 +52,5 @@ returns c = λ links entry got start.
     let deps = same_dependencies c.args.records.now c.args.place c.index-records-place.result entry c.as_slice-needed-items.result.now own got
     c.as_slice-needed-items.ensures in
     subst (λ ds. AreNumbered (hashes_of c.args.records.now)
-    (links ++ flipped (map (λ (x : Text × Kinds). (entry.hash, x.0)) (filter is_kept ds))) c.loop-needed.arcs.items)
+    (links ++ flipped (map (λ (x : Dependency). (entry.hash, x.hash)) (filter is_kept ds))) c.loop-needed.arcs.items)
     (take_all c.loop-needed.needed-index entry.dependencies (rw deps at c.loop-needed-test.false)) (c.loop-needed.invariant links entry got start)

@@ -12,4 +12,4 @@ abbrev pub invariant-loop-needed : goal.invariant-loop-needed
 invariant-loop-needed l = (links : List (Text × Text)) (entry : Record) → slice_get l.records l.place ≡ Some entry
     → AreNumbered (hashes_of l.records) links l.initial.arcs.items
     → AreNumbered (hashes_of l.records)
-    (links ++ flipped (map (λ x. (entry.hash, x.0)) (filter is_kept (take l.needed-index entry.dependencies)))) l.arcs.items
+    (links ++ flipped (map (λ x. (entry.hash, x.hash)) (filter is_kept (take l.needed-index entry.dependencies)))) l.arcs.items

@@ -24,6 +24,7 @@ returns c = λ problem names f closure has same.
     (λ v g is s. c.structure_laws.ensures.spelled v t g table is s)
     (λ v s. c.decoding_laws.ensures.graph v t table s)
     (λ v. c.decoding_laws.ensures.values v t table)
+    (λ v. c.decoding_laws.ensures.virtuals v t table)
     (λ v g is s. c.decoding_laws.ensures.same v t g table is s)
     (λ v w g a s. c.local_laws.ensures.spells n v w t g below a s)
     (λ asked g w ok. (

@@ -1,0 +1,3 @@
+class Openblas(Package):
+    version("0.3.26")
+    provides("blas")
