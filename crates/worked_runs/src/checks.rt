@@ -18,7 +18,7 @@ pub const ZLIB_OUT: &[u8] =
 /// `base64.b32encode(hashlib.sha256(text).digest()[:20]).decode().lower()`, where text is
 /// `{"compiler":{"name":"gcc","version":"12.3.0"},"dependencies":[],"external":null,"name":"zlib","os":"ubuntu22.04","target":"x86_64","variants":{},"version":"1.3"}`.
 pub const ZLIB_LOCK: &[u8] =
-    b"{\"nodes\":[{\"compiler\":{\"name\":\"gcc\",\"version\":\"12.3.0\"},\"dependencies\":[],\"entry\":null,\"external\":null,\"hash\":\"znocxg336gv6bokpvmhn4o3yuexl563j\",\"name\":\"zlib\",\"origin\":\"built\",\"os\":\"ubuntu22.04\",\"target\":\"x86_64\",\"variants\":{},\"version\":\"1.3\"}],\"providers\":{},\"roots\":[{\"hash\":\"znocxg336gv6bokpvmhn4o3yuexl563j\",\"spec\":\"zlib\"}],\"version\":1}\n";
+    b"{\"nodes\":[{\"compiler\":{\"name\":\"gcc\",\"version\":\"12.3.0\"},\"dependencies\":[],\"entry\":null,\"external\":null,\"hash\":\"znocxg336gv6bokpvmhn4o3yuexl563j\",\"name\":\"zlib\",\"origin\":\"built\",\"os\":\"ubuntu22.04\",\"target\":\"x86_64\",\"variants\":{},\"version\":\"1.3\"}],\"providers\":{},\"roots\":[{\"hash\":\"znocxg336gv6bokpvmhn4o3yuexl563j\",\"spec\":\"zlib\"}],\"version\":2}\n";
 
 pub fn words_of(alloc: Global, texts: &[&str]) -> Result<Vec<String>, AllocError> {
     let mut words = Vec::new(alloc);
