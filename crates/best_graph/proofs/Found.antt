@@ -34,12 +34,13 @@ module _ (problem : Problem) (rules : Rules) (ruled : AreRules problem rules) (b
   }
 
   -- a spent budget over the rules
-  pub stopped-answer : length log < 2 ^ 64 → IsFound rules.clauses [] budget (Spent log) → IsBest rules.clauses [] budget (Spent log)
+  pub stopped-answer : length log < 2 ^ 64 → RulesDecode problem → IsFound rules.clauses [] budget (Spent log)
+      → IsBest rules.clauses [] budget (Spent log)
       → IsAnswer problem budget (Undecided log)
-  stopped-answer finite found best = record {
+  stopped-answer finite decodes found best = record {
     means = (best.1, omega (arith, finite, best.1));
     writable = writable;
-    shows = inl (subst (λ (s : Clauses). SpentOver s [] budget log) ruled.clauses (found, best.0));
+    shows = inl (decodes, subst (λ (s : Clauses). SpentOver s [] budget log) ruled.clauses (found, best.0));
   }
 
 -- the encoding: a best graph, or that the budget was spent
@@ -66,7 +67,10 @@ module _ (problem : Problem) (e : Encoded) (encoded : IsEncoded problem e) (buil
     spent-answer finite found best = record {
       means = (best.1, omega (arith, finite, best.1));
       writable = writable;
-      shows = inr (subst (λ (x : Encoded). SpentOver x.clauses x.bits.lits budget log) built (found, best.0));
+      shows = inr (
+        subst (IsEncoded problem) built encoded,
+        subst (λ (x : Encoded). SpentOver x.clauses x.bits.lits budget log) built (found, best.0),
+      );
     }
 
   -- where the rules have a model, nothing refutes the encoding

@@ -46,12 +46,12 @@ CertifiedOver e budget graph log =
     (model : List Bool) × IsFound e.clauses e.bits.lits budget (found.Optimal model log) × (decode (values_in model) e.table ≡ graph)
 
 -- the log shows it: a certificate over the encoding of the problem; a refutation of its rules alone; or a log that spent the budget
--- over the one or the other
+-- over the one or the other; and these clauses are those of the problem
 abbrev pub Shows : Problem → ℕ → Answer → Type 0
 Shows problem budget (Best graph log) = IsEncoded problem (encoding_of problem) × CertifiedOver (encoding_of problem) budget graph log
 Shows problem budget (Nothing log) = RulesDecode problem × IsFound (rule_clauses problem) [] budget (found.Refuted log)
-Shows problem budget (Undecided log) = SpentOver (rule_clauses problem) [] budget log
-    ⊎ SpentOver (encoding_of problem).clauses (encoding_of problem).bits.lits budget log
+Shows problem budget (Undecided log) = (RulesDecode problem × SpentOver (rule_clauses problem) [] budget log)
+    ⊎ (IsEncoded problem (encoding_of problem) × SpentOver (encoding_of problem).clauses (encoding_of problem).bits.lits budget log)
 
 -- an answer with a log that shows it, and of which each line may be written
 pub record IsAnswer (problem : Problem) (budget : ℕ) (answer : Answer) : Type 0 where

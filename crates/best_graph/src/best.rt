@@ -1,8 +1,11 @@
 //! The search for the best graph.
-ghost use Rattle.std.specs.Prelude.{◌≡◌, ◌<◌, ◌≤◌, ◌^◌, true, [], IfNone, IfOk, IfSome, length};
+ghost use Rattle.std.specs.Prelude.{◌≡◌, ◌<◌, ◌≤◌, ◌^◌, true, List, [], IfNone, IfOk, IfSome, length};
+ghost use Rattle.clause_store.specs.declared.Lit.{Lit};
 ghost use Rattle.clause_store.specs.Clauses.{clauses_of};
+ghost use Rattle.proof_log.specs.Certificates.{AreOver};
 ghost use Rattle.proof_log.specs.Known.{AllClauses};
 ghost use Rattle.proof_log.specs.Lines.{AllLines};
+ghost use Rattle.proof_log.specs.Logs.{IsSound};
 ghost use Rattle.proof_log.specs.Texts.{may_write};
 ghost use Rattle.optimum_search.specs.Finding.{IsFound};
 ghost use Rattle.possible_closure.specs.Closures.{closure_of};
@@ -14,7 +17,7 @@ ghost use Rattle.best_graph.specs.Answers.{HasModel, IsAnswer};
 
 use crate::answer::Answer;
 use crate::meaning::meaning_laws;
-use clause_store::Lit;
+use clause_store::{ClauseList, Lit};
 use criteria_totals::{Bits, Terms};
 use graph_decoding::decode;
 use optimum_search::{Found, Number, Progress, Stage, found_laws, search, search_by_numbers};
@@ -22,7 +25,7 @@ use plain_data::List;
 use possible_closure::Closure;
 use problem::Problem;
 use problem_encoding::{Encoded, Rules, encode_rules, number_ends, with_costs};
-use proof_log::{Log, may_write};
+use proof_log::{Log, written_laws};
 use std::alloc::{AllocError, Global};
 
 /// The best graph of a problem, where the search may learn so many clauses. Externals and records
@@ -49,7 +52,7 @@ pub fn best_graph<P: Progress>(
         clauses: rules.clauses.len(),
     });
     let found = search(alloc, &rules.clauses, &[], budget)?;
-    match settled(problem, &rules, budget, found)? {
+    match settled(problem, &rules, budget, found) {
         Some(answer) => Ok(answer),
         None => least(alloc, problem, rules, budget, progress),
     }
@@ -57,37 +60,26 @@ pub fn best_graph<P: Progress>(
 
 /// The answer where the rules alone decide it: no graph is valid, or the budget was spent. None
 /// where there is a graph.
-fn settled(
-    _problem: &Problem,
-    _rules: &Rules,
-    _budget: u64,
-    found: Found,
-) -> Result<Option<Answer>, AllocError>
-    requires ruled { AreRules _problem.now _rules.now }
+fn settled(_problem: &Problem, rules: &Rules, _budget: u64, found: Found) -> Option<Answer>
+    requires ruled { AreRules _problem.now rules.now }
     requires decodes { RulesDecode _problem.now }
-    requires found { IsFound _rules.now.clauses [] _budget found }
-    requires in_order { AllClauses (clauses_of _rules.now.clauses.entries) }
-    ensures answer { IfOk result (λ o. IfSome o (IsAnswer _problem.now _budget)) }
-    ensures model { IfOk result (λ o. IfNone o (HasModel (rule_clauses _problem.now))) }
+    requires found { IsFound rules.now.clauses [] _budget found }
+    requires in_order { AllClauses (clauses_of rules.now.clauses.entries) }
+    ensures answer { IfSome result (IsAnswer _problem.now _budget) }
+    ensures model { IfNone result (HasModel (rule_clauses _problem.now)) }
 {
     meaning_laws();
     found_laws();
     match found {
-        Found::Optimal { .. } => Ok(None),
+        Found::Optimal { .. } => None,
         Found::Refuted { log } => {
-            if is_writable(&log) {
-                Ok(Some(Answer::Nothing { log }))
-            } else {
-                Err(AllocError)
-            }
+            is_writable(&rules.clauses, &log);
+            Some(Answer::Nothing { log })
         }
         Found::Spent { log } => {
             is_finite(&log);
-            if is_writable(&log) {
-                Ok(Some(Answer::Undecided { log }))
-            } else {
-                Err(AllocError)
-            }
+            is_writable(&rules.clauses, &log);
+            Some(Answer::Undecided { log })
         }
     }
 }
@@ -144,11 +136,16 @@ fn parts_of(alloc: Global, terms: &Terms) -> Result<List<Lit>, AllocError> {
     Ok(parts)
 }
 
-/// Whether each line of a log may be written.
-fn is_writable(log: &Log) -> bool
-    ensures { result ≡ true → AllLines (λ line. may_write line ≡ true) log.now }
+/// The lines of a sound log over the variables of clauses may be written: these have numbers of 64
+/// bits.
+fn is_writable(clauses: &ClauseList, _log: &Log)
+    ensures { (bits : List Lit)
+        → IsSound clauses.now.vars (clauses_of clauses.now.entries) bits _log.now
+        → AreOver clauses.now.vars _log.now
+        → AllLines (λ line. may_write line ≡ true) _log.now }
 {
-    log.lines().iter().all(|line| may_write(line))
+    written_laws();
+    let _count = clauses.vars();
 }
 
 /// A log in memory has fewer lines than 2^64.
@@ -158,7 +155,7 @@ fn is_finite(log: &Log)
     let _count = log.lines().len();
 }
 
-/// What was found over the encoding, as an answer. A log that may not be written is want of memory.
+/// What was found over the encoding, as an answer.
 fn answer_of(
     alloc: Global,
     _problem: &Problem,
@@ -179,20 +176,14 @@ fn answer_of(
     match found {
         Found::Optimal { model, log } => {
             let graph = decode(alloc, &encoded.table, model.as_slice())?;
-            if is_writable(&log) {
-                Ok(Answer::Best { graph, log })
-            } else {
-                Err(AllocError)
-            }
+            is_writable(&encoded.clauses, &log);
+            Ok(Answer::Best { graph, log })
         }
         Found::Refuted { log: _ } => unreachable!(),
         Found::Spent { log } => {
             is_finite(&log);
-            if is_writable(&log) {
-                Ok(Answer::Undecided { log })
-            } else {
-                Err(AllocError)
-            }
+            is_writable(&encoded.clauses, &log);
+            Ok(Answer::Undecided { log })
         }
     }
 }

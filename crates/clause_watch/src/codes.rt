@@ -1,5 +1,6 @@
 //! Literals and entries as they are kept: in 4 and in 8 bytes.
-ghost use Rattle.std.specs.Prelude.{◌≡◌, ◌<◌, ◌^◌, IfOk};
+ghost use Rattle.std.specs.Prelude.{◌≡◌, ◌≤◌, ◌<◌, ◌^◌, IfOk, IfErr};
+ghost use Rattle.clause_store.specs.Lits.{var_of};
 
 use crate::lists::Entry;
 use clause_store::{Lit, Var};
@@ -26,7 +27,8 @@ impl Code {
     /// The code of a literal; beyond 31 bits want of memory.
     #[tactic(auto, using(crate::proofs::Halves::half_of, crate::proofs::Halves::odd_of))]
     pub fn new(lit: Lit) -> Result<Code, AllocError>
-        ensures { IfOk result (λ c. c ≡ lit) }
+        ensures ok { IfOk result (λ c. c ≡ lit) }
+        ensures cause { IfErr result (λ _. 2 ^ 31 ≤ var_of lit) }
     {
         if lit.var.0 > u64::from(u32::MAX / 2) {
             return Err(AllocError);
@@ -54,6 +56,17 @@ impl Code {
     }
 }
 
+/// A place that leaves a bit free; beyond 31 bits want of memory.
+fn in_31_bits(place: u32) -> Result<u32, AllocError>
+    ensures ok { IfOk result (λ p. (p ≡ place) × (p < 2 ^ 31)) }
+    ensures cause { IfErr result (λ _. 2 ^ 31 ≤ place) }
+{
+    if place > u32::MAX / 2 {
+        return Err(AllocError);
+    }
+    Ok(place)
+}
+
 /// An entry: twice its place, and one more where its clause surely has two literals; and the code
 /// of its other literal.
 #[derive(Default, Drop)]
@@ -79,11 +92,9 @@ impl Packed {
         ensures { IfOk result (λ p. p ≡ entry) }
     {
         let other = Code::new(entry.other)?;
-        if entry.place > u32::MAX / 2 {
-            return Err(AllocError);
-        }
+        let place = in_31_bits(entry.place)?;
         Ok(Packed {
-            head: entry.place * 2 + u32::from(entry.two),
+            head: place * 2 + u32::from(entry.two),
             other,
         })
     }

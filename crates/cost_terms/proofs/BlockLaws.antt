@@ -5,7 +5,7 @@ use Rattle.std.proofs.lemmas.List.{take-append-drop}
 use Rattle.std.specs.Prelude.{if◌then◌else◌}
 use Rattle.clause_formulas.specs.Statements.{Statement, eval, any_statement, SaidBelow}
 use Rattle.clause_formulas.proofs.Words.{eval-all_of, all_of-below}
-use Rattle.cost_terms.specs.Blocks.{block_of, blocks_of, none_among}
+use Rattle.cost_terms.specs.Blocks.{any_gated, blocks_of, none_among}
 
 and-true : (a : Bool) → (a && true) ≡ a
 and-true true = refl
@@ -26,7 +26,7 @@ module _ (v : ℕ → Bool) where
   any-append [] gs = refl
   any-append (f ∷ fs) gs = rw (any-append fs gs) (or-assoc (eval v f) (eval v (any_statement fs)) (eval v (any_statement gs)))
 
-  block-said : (fs : List Statement) → eval v (block_of fs) ≡ eval v (any_statement fs)
+  block-said : (fs : List Statement) → eval v (any_gated fs) ≡ eval v (any_statement fs)
   block-said fs = eval-all_of v (any_statement fs ∷ []) ∙ and-true (eval v (any_statement fs))
 
   blocks-said : (times size : ℕ) (fs : List Statement) → eval v (any_statement (blocks_of times size fs)) ≡ eval v (any_statement fs)
@@ -35,7 +35,7 @@ module _ (v : ℕ → Bool) where
   blocks-said (suc times) size fs =
       let n = length fs - size in
       elim (nat_lt (length fs) size) as (λ b. eval v (any_statement (if b then blocks_of times (size / 2) fs
-      else block_of (drop n fs) ∷ blocks_of times (size / 2) (take n fs))) ≡ eval v (any_statement fs)) [
+      else any_gated (drop n fs) ∷ blocks_of times (size / 2) (take n fs))) ≡ eval v (any_statement fs)) [
         | true ↦ blocks-said times (size / 2) fs
         | false ↦ rw (block-said (drop n fs), blocks-said times (size / 2) (take n fs))
             (or-swap (eval v (any_statement (drop n fs))) (eval v (any_statement (take n fs))))
@@ -60,7 +60,7 @@ module _ (n : ℕ) where
       let i = length fs - size in
       let parts = parts-below i fs h in
       elim (nat_lt (length fs) size) as (λ b. SaidBelow n (any_statement (if b then blocks_of times (size / 2) fs
-      else block_of (drop i fs) ∷ blocks_of times (size / 2) (take i fs)))) [
+      else any_gated (drop i fs) ∷ blocks_of times (size / 2) (take i fs)))) [
         | true ↦ blocks-below times (size / 2) fs h
         | false ↦ (all_of-below n (any_statement (drop i fs) ∷ []) (parts.1, tt), blocks-below times (size / 2) (take i fs) parts.0)
       ]

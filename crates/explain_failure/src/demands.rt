@@ -1,5 +1,5 @@
 //! The demands that a refutation rests on.
-ghost use Rattle.std.specs.Prelude.{◌≡◌, ◌+◌, IfOk, length};
+ghost use Rattle.std.specs.Prelude.{◌≡◌, ◌+◌, ◌^◌, ◌≤◌, IfErr, IfOk, length};
 ghost use Rattle.explain_failure.specs.Uses.{AreReasons, IsRefuted, IsRising};
 ghost use Rattle.explain_failure.specs.Marks.{demand_of, AreDemands};
 
@@ -39,14 +39,13 @@ fn demands_of(alloc: Global, clauses: &ClauseList, marks: &[bool]) -> Result<Vec
     Ok(demands)
 }
 
-/// How many marks there are to be: one for each clause, and for id 0.
+/// How many marks there are to be: one for each clause, and for id 0; beyond 64 bits want of memory.
 fn size_for(clauses: u64, lines: usize) -> Result<usize, AllocError>
-    ensures { IfOk result (λ size. size ≡ clauses + lines + 1) }
+    ensures ok { IfOk result (λ size. size ≡ clauses + lines + 1) }
+    ensures cause { IfErr result (λ _. 2 ^ 64 ≤ clauses + lines + 1) }
 {
-    let Some(all) = (clauses as usize).checked_add(lines) else {
-        return Err(AllocError);
-    };
-    match all.checked_add(1) {
+    let all = clauses as usize;
+    match all.checked_add(lines).and_then(|all| all.checked_add(1)) {
         Some(size) => Ok(size),
         None => Err(AllocError),
     }

@@ -19,7 +19,7 @@ use Rattle.problem.specs.declared.demand.Demand.{Demand}
 use Rattle.literal_table.specs.Tables.{Table, table_names}
 use Rattle.graph_levels.specs.Stages.{Decodes}
 use Rattle.graph_levels.specs.Edges.{edges_on}
-use Rattle.graph_levels.specs.Levels.{input_for, requested_names, places_of, PathTable, path_table}
+use Rattle.graph_levels.specs.Levels.{input_for, root_names, places_of, PathTable, path_table}
 use Rattle.graph_encoding.specs.Formulas.{Formulas, PathFormulas, PathsBelow, IsRightTable, AreRightFormulas}
 use Rattle.graph_encoding.specs.Encodings.{base, levels_made, rules_on, encode_on, told_in, IsValid}
 use Rattle.graph_encoding.proofs.Joining.{encoded}
@@ -51,8 +51,8 @@ pub structure_made : (problem : Problem) (t : Table) (n : ℕ) (f : Formulas) (t
     (fs : List Statement) (ls lits : List Lit) (paths : PathTable) → old ≡ record { entries = []; vars = 0 }
     → made ≡ with_vars old (old.vars + n) → shaped ≡ assert_all made fs → fs ≡ f.structure
     → edges_on shaped t.edges ≡ record { list = edged; answer = ls } → lits ≡ ls
-    → new ≡ levels_on (input_for t lits (requested_names problem) targets edged.vars) edged
-    → paths ≡ path_table (places_of (table_names t) targets) (paths_of (input_for t lits (requested_names problem) targets edged.vars))
+    → new ≡ levels_on (input_for t lits (root_names problem) targets edged.vars) edged
+    → paths ≡ path_table (places_of (table_names t) targets) (paths_of (input_for t lits (root_names problem) targets edged.vars))
     → levels_made problem t n f targets ≡ record { list = new; answer = paths.paths }
 structure_made problem t n f targets old made shaped edged new fs ls lits paths o m a b e same c d =
     levels_step problem t n f targets shaped edged new fs lits paths (a ∙ ap (λ s. assert_all s fs) (base_made old made n o m)) b

@@ -40,7 +40,7 @@ use Rattle.graph_levels.specs.Rules.{Says, Holds, FitsGates, ValuesSay, asked_am
 use Rattle.graph_levels.proofs.Growing.{added, joined, restated, named, decodes, local-le, local-both}
 use Rattle.graph_levels.proofs.Adapters.{asserted, defined, demanded, begun}
 use Rattle.graph_levels.specs.Edges.{EdgesSay, EdgesBelow, edges_on}
-use Rattle.graph_levels.specs.Levels.{SpellsEdges, AGraph, KeepsLevelRules, PathsSay, input_for, places_of, path_said, requested_names}
+use Rattle.graph_levels.specs.Levels.{SpellsEdges, AGraph, KeepsLevelRules, PathsSay, input_for, places_of, path_said, root_names}
 use Rattle.graph_levels.proofs.EdgeLaws.{edges-are, edge-stage}
 use Rattle.graph_levels.proofs.InputLaws.{input-right, lits-below}
 use Rattle.graph_levels.proofs.LevelStage.{level-stage, path-below}
@@ -123,7 +123,7 @@ module _ (problem : Problem) (t : Table) (n : ℕ) (f : Formulas) (decode : (ℕ
 
   module _ (targets : List Text) where
     abbrev pub level_in : LevelData
-    level_in = input_for t edged.answer (requested_names problem) targets edged.list.vars
+    level_in = input_for t edged.answer (root_names problem) targets edged.list.vars
 
     abbrev pub levelled : Clauses
     levelled = levels_on level_in edged.list
@@ -133,7 +133,7 @@ module _ (problem : Problem) (t : Table) (n : ℕ) (f : Formulas) (decode : (ℕ
 
     levels-kept : KeepsLevels level_in edged.list levelled paths
     levels-kept = levels-keep level_in edged.list paths
-        (input-right t edged.answer (requested_names problem) targets edged.list.vars
+        (input-right t edged.answer (root_names problem) targets edged.list.vars
         (λ k d lt. let h = right.nodes_below k d lt in omega (arith, edged-more, h))
         (lits-below shaped edged.list t.edges edged.answer (edges-are shaped t.edges edges-below).1)) refl refl
 

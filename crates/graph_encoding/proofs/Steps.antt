@@ -25,7 +25,7 @@ use Rattle.problem.specs.declared.demand.Demand.TheVariants as demand
 use Rattle.literal_table.specs.Tables.{Table, table_names}
 use Rattle.literal_table.specs.declared.block.EdgeLits.{EdgeLits}
 use Rattle.graph_levels.specs.Edges.{edges_on, EdgesBelow}
-use Rattle.graph_levels.specs.Levels.{input_for, requested_names, places_of, PresentBelow, PathTable, path_table}
+use Rattle.graph_levels.specs.Levels.{input_for, root_names, places_of, PresentBelow, PathTable, path_table}
 use Rattle.graph_levels.proofs.EdgeLaws.{edges-are, Told}
 use Rattle.graph_levels.proofs.InputLaws.{lits-below}
 use Rattle.graph_encoding.specs.Formulas.{Formulas, PathFormulas, PathsBelow}
@@ -68,15 +68,15 @@ pub levels_step : (problem : Problem) (t : Table) (n : ℕ) (f : Formulas) (targ
     (fs : List Statement)
     (ls : List Lit) (made : PathTable) → shaped ≡ assert_all (base n) fs → fs ≡ f.structure
     → edges_on shaped t.edges ≡ record { list = edged; answer = ls }
-    → new ≡ levels_on (input_for t ls (requested_names problem) targets edged.vars) edged
-    → made ≡ path_table (places_of (table_names t) targets) (paths_of (input_for t ls (requested_names problem) targets edged.vars))
+    → new ≡ levels_on (input_for t ls (root_names problem) targets edged.vars) edged
+    → made ≡ path_table (places_of (table_names t) targets) (paths_of (input_for t ls (root_names problem) targets edged.vars))
     → levels_made problem t n f targets ≡ record { list = new; answer = made.paths }
 unfolding levels_made edges_made
 levels_step problem t n f targets shaped edged new fs ls made a b e c d =
-    ap (λ (m : Grown (List Lit)). let s = input_for t m.answer (requested_names problem) targets m.list.vars in
+    ap (λ (m : Grown (List Lit)). let s = input_for t m.answer (root_names problem) targets m.list.vars in
     record { list = levels_on s m.list; answer = paths_of s })
     (ap (λ s. edges_on s t.edges) (ap (assert_all (base n)) (sym b) ∙ sym a) ∙ e)
-    ∙ ap (λ l. record { list = l; answer = paths_of (input_for t ls (requested_names problem) targets edged.vars) }) (sym c)
+    ∙ ap (λ l. record { list = l; answer = paths_of (input_for t ls (root_names problem) targets edged.vars) }) (sym c)
     ∙ ap (λ ps. record { list = new; answer = ps }) (ap (λ (p : PathTable). p.paths) (sym d))
 
 -- ---- the rules

@@ -26,7 +26,7 @@ use Rattle.literal_table.proofs.Spelling.{named-so}
 use Rattle.graph_formulas.proofs.Rules.{given-kept, each-kept, some-kept, named-kept}
 use Rattle.graph_formulas.proofs.Kept.{by_node}
 use Rattle.graph_formulas.specs.Terms.{Term, is_true, met_rule}
-use Rattle.graph_formulas.specs.Edges.{asked_child, empty_kinds, of_provider, asks_rule, may_ask, kind_rule, virtual_rule, extra_edge_rule}
+use Rattle.graph_formulas.specs.Edges.{asked_child, no_kinds, of_provider, asks_rule, may_ask, kind_rule, virtual_rule, extra_edge_rule}
 use Rattle.graph_formulas.proofs.Directives.{LeadsToNodes, not-or, then-and}
 
 any-filter : {T : Type 0} (test f : T → Bool) (xs : List T) → list_any test (filter f xs) ≡ list_any (λ x. test x && f x) xs
@@ -271,9 +271,9 @@ module _ (problem : Problem) (packages : Text → List Text) (graph : Content)
       ≡ (if_written (edge_of graph name child) (λ e. covers (asked_kinds (asking problem graph node child)) e.kinds)
       && list_all (λ q. implies (is_one_text (virtuals_in (edge_of graph name child)) q) (is_asked_virtual problem graph node child q)) virtuals)
   extra_edge-kept leads virtuals child = rw (
-    kind-kept leads (record empty_kinds { build = true }) (λ k. k.build) child (λ k. ands k.build),
-    kind-kept leads (record empty_kinds { link = true }) (λ k. k.link) child (λ k. and-true k.link),
-    kind-kept leads (record empty_kinds { run = true }) (λ k. k.run) child (λ k. refl),
+    kind-kept leads (record no_kinds { build = true }) (λ k. k.build) child (λ k. ands k.build),
+    kind-kept leads (record no_kinds { link = true }) (λ k. k.link) child (λ k. and-true k.link),
+    kind-kept leads (record no_kinds { run = true }) (λ k. k.run) child (λ k. refl),
     each-kept (is_true (world_of problem) graph) (virtual_rule problem packages name child)
         (λ q. implies (is_one_text (virtuals_in (edge_of graph name child)) q) (is_asked_virtual problem graph node child q))
         (virtual-kept leads child) virtuals,

@@ -27,7 +27,7 @@ use Rattle.graph_formulas.specs.Facts.{GraphWord, provides_as, Fact, same_varian
 use Rattle.graph_formulas.specs.Lists.{◌and◌, settled_test, one_keeps, each_keeps}
 use Rattle.graph_formulas.proofs.Rules.{given-kept, named-kept, each-kept}
 use Rattle.graph_formulas.proofs.Kept.{there}
-use Rattle.graph_formulas.specs.Edges.{empty_kinds}
+use Rattle.graph_formulas.specs.Edges.{no_kinds}
 use Rattle.graph_formulas.specs.Kept.{same_origin, installs, same_rule, kinds_rule, is_child_name, provided_rule, joined_rule, child_rule, recorded_rule, origin_rule, kept_rule}
 
 -- ---- origins
@@ -130,9 +130,9 @@ module _ (problem : Problem) (graph : Content) (name : Text) (node : Node) (here
   kinds-kept : (child : Text) (kinds : Kinds) → in_graph (kinds_rule name child kinds) ≡ is_some_and (edge_of graph name child) (has_kinds kinds)
   kinds-kept child kinds = rw (given-kept (is_in graph) kinds.link, given-kept (is_in graph) kinds.run) (kinds-kept-cases (edge_of graph name child))
     where
-      kinds-kept-cases : (o : Option Edge) → (((on o (record kinds { build = false }) && not (on o (record empty_kinds { build = true })))
-          && (not (on o (record empty_kinds { link = true })) || kinds.link))
-          && (not (on o (record empty_kinds { run = true })) || kinds.run))
+      kinds-kept-cases : (o : Option Edge) → (((on o (record kinds { build = false }) && not (on o (record no_kinds { build = true })))
+          && (not (on o (record no_kinds { link = true })) || kinds.link))
+          && (not (on o (record no_kinds { run = true })) || kinds.run))
           ≡ is_some_and o (has_kinds kinds)
       kinds-kept-cases None = refl
       kinds-kept-cases (Some e) = kind-tests (covers e.kinds (record kinds { build = false })) e.kinds.build e.kinds.link e.kinds.run kinds.link kinds.run
@@ -166,21 +166,21 @@ module _ (problem : Problem) (graph : Content) (name : Text) (node : Node) (here
       ∙ sym (edges (is_child problem entry))
     where
       recorded-kept-cases : (child : Text) (o : Option Edge) → ((e : Edge) → o ≡ Some e → e.child ≡ child)
-          → (not (is_some_and o (λ e. covers e.kinds empty_kinds)) || in_graph (settled_test (is_child_name problem entry child)))
+          → (not (is_some_and o (λ e. covers e.kinds no_kinds)) || in_graph (settled_test (is_child_name problem entry child)))
           ≡ if_written o (is_child problem entry)
       recorded-kept-cases child None one_keeps = refl
       recorded-kept-cases child (Some e) one_keeps = given-kept (is_in graph) (is_child_name problem entry child)
           ∙ ap (is_child_name problem entry) (sym (one_keeps e refl))
 
-  no-edge-kept : in_graph (each_keeps (λ child. isnt (fact (has_edge name child empty_kinds))) children) ≡ list_all (λ e. false)
+  no-edge-kept : in_graph (each_keeps (λ child. isnt (fact (has_edge name child no_kinds))) children) ≡ list_all (λ e. false)
       (edges_from graph name)
   no-edge-kept =
-      each-kept (is_in graph) (λ child. isnt (fact (has_edge name child empty_kinds)))
+      each-kept (is_in graph) (λ child. isnt (fact (has_edge name child no_kinds)))
       (λ child. if_written (edge_of graph name child) (λ e. false))
       (λ child. none (edge_of graph name child)) children
       ∙ sym (edges (λ e. false))
     where
-      none : (o : Option Edge) → not (is_some_and o (λ e. covers e.kinds empty_kinds)) ≡ if_written o (λ e. false)
+      none : (o : Option Edge) → not (is_some_and o (λ e. covers e.kinds no_kinds)) ≡ if_written o (λ e. false)
       none None = refl
       none (Some e) = refl
 

@@ -14,8 +14,8 @@ use Rattle.graph_formulas.specs.Facts.{GraphWord, provides_as, has_edge, has_vir
 use Rattle.graph_formulas.specs.Lists.{◌and◌, settled_test, one_keeps, each_keeps, some}
 use Rattle.graph_formulas.specs.Terms.{Term, known_rule, met_rule}
 
-abbrev pub empty_kinds : Kinds
-empty_kinds = record { build = false; link = false; run = false }
+abbrev pub no_kinds : Kinds
+no_kinds = record { build = false; link = false; run = false }
 
 -- a name asks for this child, where that is there: it is the child's own, or that of a virtual which the child provides
 abbrev pub asked_child : World → Text → Text → Proposition GraphWord
@@ -47,9 +47,9 @@ module _ (problem : Problem) (packages : Text → List Text) where
   -- of an edge that may name these virtuals
   abbrev pub extra_edge_rule : List Text → Text → Text → Proposition Term
   extra_edge_rule virtuals name child =
-      kind_rule (record empty_kinds { build = true }) (λ kinds. kinds.build) name child
-      and kind_rule (record empty_kinds { link = true }) (λ kinds. kinds.link) name child
-      and kind_rule (record empty_kinds { run = true }) (λ kinds. kinds.run) name child
+      kind_rule (record no_kinds { build = true }) (λ kinds. kinds.build) name child
+      and kind_rule (record no_kinds { link = true }) (λ kinds. kinds.link) name child
+      and kind_rule (record no_kinds { run = true }) (λ kinds. kinds.run) name child
       and each_keeps (virtual_rule name child) virtuals
 
   -- of the edges to each of these names, each of which may name these virtuals

@@ -20,7 +20,7 @@ use Rattle.literal_table.specs.Tables.{Table, block_of}
 use Rattle.literal_table.specs.declared.block.Block.{Block}
 use Rattle.graph_formulas.specs.Facts.{GraphWord, node_has, has_origin, has_version, has_variants, has_compiler, has_os, has_target, has_prefix, has_edge, has_virtuals, provides_as}
 use Rattle.graph_formulas.specs.Lists.{◌and◌, settled_test, one_keeps, each_keeps}
-use Rattle.graph_formulas.specs.Edges.{empty_kinds}
+use Rattle.graph_formulas.specs.Edges.{no_kinds}
 
 -- ---- origins
 
@@ -65,9 +65,9 @@ same_rule name k =
 abbrev pub kinds_rule : Text → Text → Kinds → Proposition GraphWord
 kinds_rule name child kinds =
     fact (has_edge name child (record kinds { build = false }))
-    and isnt (fact (has_edge name child (record empty_kinds { build = true })))
-    and if_so (fact (has_edge name child (record empty_kinds { link = true }))) (settled_test kinds.link)
-    and if_so (fact (has_edge name child (record empty_kinds { run = true }))) (settled_test kinds.run)
+    and isnt (fact (has_edge name child (record no_kinds { build = true })))
+    and if_so (fact (has_edge name child (record no_kinds { link = true }))) (settled_test kinds.link)
+    and if_so (fact (has_edge name child (record no_kinds { run = true }))) (settled_test kinds.run)
 
 abbrev pub is_child_name : Problem → Record → Text → Bool
 is_child_name problem entry name =
@@ -89,7 +89,7 @@ module _ (problem : Problem) (children : List Text) where
 
   -- an edge goes to a child of the record
   abbrev pub recorded_rule : Text → Record → Text → Proposition GraphWord
-  recorded_rule name entry child = if_so (fact (has_edge name child empty_kinds)) (settled_test (is_child_name problem entry child))
+  recorded_rule name entry child = if_so (fact (has_edge name child no_kinds)) (settled_test (is_child_name problem entry child))
 
   -- ---- the rule
 
@@ -98,7 +98,7 @@ module _ (problem : Problem) (children : List Text) where
   origin_rule name (External place) =
       one_keeps (slice_get (externals_in (package_entry_of problem name)) place)
       (λ entry. same_rule name (external_node problem name place entry))
-      and each_keeps (λ child. isnt (fact (has_edge name child empty_kinds))) children
+      and each_keeps (λ child. isnt (fact (has_edge name child no_kinds))) children
   origin_rule name (Installed hash) =
       one_keeps (record_at problem hash) (λ entry.
       same_rule name (installed_node entry)

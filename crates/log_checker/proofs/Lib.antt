@@ -1,4 +1,5 @@
 pub mod Ids
+pub mod Flat
 pub mod Places
 pub mod Marks
 pub mod Values

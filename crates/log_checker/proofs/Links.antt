@@ -6,7 +6,7 @@ use Rattle.std.proofs.lemmas.Bool.Decides.{eqb_tells, leb_tells}
 use Rattle.std.proofs.lemmas.List.{length-append, length-set, length-take-le, take-append-le, take_all, take_more, drop_all, append-nil, length-replicate, get_or-replicate, get_or-set_same, get_or-set_other, get_or_append_left}
 use Rattle.std.proofs.Math.Seq.{get_or-append_seam}
 use Rattle.std.proofs.Math.Bool.{or-true}
-use Rattle.std.proofs.lemmas.Option.{same_Some, none-some}
+use Rattle.std.proofs.lemmas.Option.{same_Some, none-some, slice_get-get_or}
 use Rattle.clause_store.specs.declared.Lit.{Lit}
 use Rattle.log_checker.specs.declared.known.Known.{Known}
 use Rattle.log_checker.specs.Known.{rivals_in}
@@ -144,7 +144,7 @@ notes-own factor heads links k b next e q w m = λ ks a.
     (slot-own (bucket_of factor (length heads)) k e ∙ ap Some (sym q)) w m
 
 pub indexed-more : (factor : ℕ) (heads links heads_new links_new : List ℕ) (ks : List Known) (at : ℕ) (k : Known)
-    → at < length ks → k ≡ get_or ks at k → at ≡ length links → length heads_new ≡ length heads
+    → at < length ks → slice_get ks at ≡ Some k → at ≡ length links → length heads_new ≡ length heads
     → Notes factor heads links heads_new links_new k → AreIndexed factor heads links ks
     → (at + 1 ≡ length links_new) × AreIndexed factor heads_new links_new ks
 indexed-more factor heads links heads_new links_new ks at k h e q n f i = (
@@ -157,7 +157,7 @@ indexed-more factor heads links heads_new links_new ks at k h e q n f i = (
 )
   where
     more : take (at + 1) ks ≡ take (length links) ks ++ k ∷ []
-    more = take_more ks at k h ∙ ap (λ x. take at ks ++ x ∷ []) (sym e) ∙ ap (λ m. take m ks ++ k ∷ []) q
+    more = take_more ks at k h ∙ ap (λ x. take at ks ++ x ∷ []) (sym (same_Some k (get_or ks at k) (sym e ∙ slice_get-get_or ks at k h))) ∙ ap (λ m. take m ks ++ k ∷ []) q
 
     noted : AreLinked (bucket_of factor (length heads)) heads_new links_new (take (length links) ks ++ k ∷ [])
     noted = f (take (length links) ks) i.1

@@ -6,7 +6,7 @@ ghost use Rattle.log_checker.specs.Steps.{run_lines, Going};
 ghost use Rattle.log_checker.specs.Blocks.{take_in, first_bad, either, is_late, verdict, one_more, progress_of, Grows};
 
 use crate::gate::Gate;
-use crate::known::Known;
+use crate::known::KnownList;
 use crate::lines::own_chain;
 use crate::position::Position;
 use crate::signs::Signs;
@@ -22,7 +22,7 @@ pub struct Ground<'a> {
     alloc: Global,
     vars: usize,
     bits: &'a [Lit],
-    known: &'a [Known],
+    known: &'a KnownList,
 }
 
 /// The first of some lines whose chain has a fault, by its number in the log. The lines stand at places
@@ -207,7 +207,7 @@ pub fn check_block<R: Threads + Sync, G: Gate>(
     let count = count_checked(before, position.lines(), plain);
     let ground = Ground {
         alloc,
-        vars,
+        vars: position.known().room(vars),
         bits: position.bits(),
         known: position.known(),
     };

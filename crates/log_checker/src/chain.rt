@@ -7,12 +7,15 @@ ghost use Rattle.log_checker.specs.Steps.{chain_why, is_bit_value};
 ghost use Rattle.log_checker.specs.Signs.{sign_of, opposed, clashes, only_one, overlay, strip};
 ghost use Rattle.log_checker.specs.Uses.{is_other, only_pivot, IsEnough, IsResolved, IsKeptOf};
 
-use crate::known::{Known, lits_of};
+use crate::known::{KnownList, lits_of};
 use crate::signs::Signs;
 use crate::step::Why;
 use crate::uses::{Uses, literals_of};
 use clause_store::Lit;
 use std::alloc::AllocError;
+
+/// How many literals are looked at in the time in which one is looked for, where the signs are in the row.
+const SEARCH: usize = 8;
 
 /// Whether a literal's variable has the opposite sign.
 fn is_opposed(signs: &Signs, lit: Lit) -> bool
@@ -101,6 +104,20 @@ fn resolve(signs: &mut Signs, _lits: &[Lit], parts: &[Lit]) -> Result<Result<Lit
     }
 }
 
+/// How many literals of a clause are looked for at most in the time in which all are looked at.
+fn most_searches(signs: &Signs, lits: &[Lit]) -> usize {
+    match lits.last() {
+        Some(last) => {
+            if signs.is_in_row(last.var.0) {
+                lits.len() / SEARCH
+            } else {
+                lits.len()
+            }
+        }
+        None => 0,
+    }
+}
+
 /// Resolves with a known clause, and gives the pivot.
 fn resolve_with(
     signs: &mut Signs,
@@ -114,7 +131,7 @@ fn resolve_with(
     ensures signs { IfOk result (λ pivot. IfOk pivot (λ p. IsResolved (sign_of signs.old) (sign_of signs.new)
         lits.now p)) }
 {
-    match uses.since(id, lits.len()) {
+    match uses.since(id, lits.len(), most_searches(signs, lits)) {
         Some(vars) => {
             let parts = literals_of(signs.alloc(), lits, vars)?;
             resolve(signs, lits, parts.as_slice())
@@ -126,7 +143,7 @@ fn resolve_with(
 /// What is wrong with a chain of known ids. Whatever signs there are, they are lost.
 pub fn check_chain(
     signs: &mut Signs,
-    known: &[Known],
+    known: &KnownList,
     chain: &[u64],
     stated: &[Lit],
 ) -> Result<Option<Why>, AllocError>

@@ -1,18 +1,19 @@
 //! Where a checker stands: what it knows, and which rule a line breaks there.
-ghost use Rattle.std.specs.Prelude.{◌≡◌, ◌<◌, ◌≤◌, ◌+◌, ◌^◌, None, IfOk, OnOk, OnErr, length};
+ghost use Rattle.std.specs.Prelude.{◌≡◌, ◌<◌, ◌≤◌, ◌+◌, ◌^◌, [], ◌∷◌, ◌++◌, None, IfOk, OnOk, OnErr, length};
 ghost use Rattle.std.specs.Option.{option_map};
+ghost use Rattle.clause_store.specs.Lits.{IsClause};
 ghost use Rattle.clause_store.specs.Clauses.{clauses_of};
 ghost use Rattle.proof_log.specs.Known.{AllClauses};
 ghost use Rattle.log_checker.specs.Steps.{unless, begun, is_first_line, may_stand_later, next_id, next_bit, has_value, own_line_fault, place_fault, plain_fault, fault, noted, accept};
-ghost use Rattle.log_checker.specs.Known.{as_known};
+ghost use Rattle.log_checker.specs.Known.{as_known, rival};
 ghost use Rattle.log_checker.specs.Blocks.{Fits, mark_of, back_to};
 
-use crate::known::{Known, bit_known, input_known, rival_known};
+use crate::known::{Known, KnownList, bit_known, rival_known};
 use crate::lines::{bit_at, count_settled, derivation_fault, ids_fault, is_last};
 use crate::signs::Signs;
 use crate::step::Why;
 use crate::store::Store;
-use clause_store::{ClauseList, Lit};
+use clause_store::{Clause, ClauseList, Lit};
 use proof_log::Line;
 use std::alloc::{AllocError, Global};
 use std::marker::Model;
@@ -64,6 +65,14 @@ pub struct Mark {
     ended: bool,
 }
 
+/// One clause of the input.
+fn take_input(store: &mut Store, clause: Clause) -> Result<(), AllocError>
+    ensures ok { OnOk result (store.new ≡ store.old ++ rival clause ∷ []) }
+    ensures in_order { IsClause clause }
+{
+    store.add(clause.lits(), false)
+}
+
 /// The clauses of a list, as the first known ones.
 fn copy_all(alloc: Global, clauses: &ClauseList) -> Result<Store, AllocError>
     ensures copied { IfOk result (λ store. store ≡ as_known (clauses_of clauses.now.entries)) }
@@ -73,7 +82,7 @@ fn copy_all(alloc: Global, clauses: &ClauseList) -> Result<Store, AllocError>
     let mut store = Store::new(alloc)?;
     for place in 0..count {
         match clauses.get(alloc, place + 1)? {
-            Some(clause) => store.add(input_known(clause))?,
+            Some(clause) => take_input(&mut store, clause)?,
             None => {}
         }
     }
@@ -112,7 +121,7 @@ impl Position {
         })
     }
 
-    pub fn known(&self) -> &[Known]
+    pub fn known(&self) -> &KnownList
         ensures { result.now ≡ self.now.known }
     {
         self.store.known()

@@ -49,6 +49,11 @@ impl Signs {
         self.alloc
     }
 
+    /// Whether a variable's sign stands in the row.
+    pub fn is_in_row(&self, var: u64) -> bool {
+        (var as usize) < self.marks.len()
+    }
+
     pub fn get(&self, var: u64) -> Option<bool>
         ensures { result ≡ sign_of self.now var }
     {

@@ -11,9 +11,6 @@ use std::marker::Model;
 /// How many literals a clause has, at least, whose uses are noted.
 const LONG: usize = 32;
 
-/// How many literals are looked at in the time in which one is looked for.
-const SEARCH: usize = 8;
-
 /// The steps of a chain so far.
 ///
 /// A step leaves each literal of its clause with its sign, but for the pivot; and only a later pivot takes a sign. So
@@ -46,15 +43,15 @@ impl Uses {
         }
     }
 
-    /// The pivots since a clause of so many literals was last used, where that is noted and they are few.
-    pub fn since(&self, id: u64, count: usize) -> Option<&[u64]>
+    /// The pivots since a clause of so many literals was last used, where that is noted and they are at most so many.
+    pub fn since(&self, id: u64, count: usize, most: usize) -> Option<&[u64]>
         ensures { IfSome result (λ vars. IsSince self.now id vars.now) }
     {
         if count < LONG {
             return None;
         }
         match self.last.get(&id) {
-            Some(steps) => few_from(self.pivots.as_slice(), *steps, count / SEARCH),
+            Some(steps) => few_from(self.pivots.as_slice(), *steps, most),
             None => None,
         }
     }

@@ -9,10 +9,30 @@ use std::thread::Threads;
 
 /// Notes where each half was, and has each wait for a while until the other was somewhere.
 #[derive(Drop)]
-struct Masks {
+pub struct Masks {
     first: AtomicU64,
     second: AtomicU64,
     alone: AtomicBool,
+}
+
+impl Masks {
+    pub fn new() -> Masks {
+        Masks {
+            first: AtomicU64::new(0),
+            second: AtomicU64::new(0),
+            alone: AtomicBool::new(false),
+        }
+    }
+
+    /// Where each half was, a bit for a place, and whether one was alone.
+    pub fn text(&self, alloc: Global) -> Result<String, AllocError> {
+        format!(in alloc;
+            "places {} and {}, alone: {}",
+            self.first.load(Ordering::SeqCst),
+            self.second.load(Ordering::SeqCst),
+            self.alone.load(Ordering::SeqCst)
+        )
+    }
 }
 
 impl Gate for Masks {
@@ -62,21 +82,12 @@ pub fn answer<R: Threads + Sync>(rt: &R, alloc: Global) -> Result<String, AllocE
         lines.push(Line::Zero { id: bit + 1, bit })?;
     }
     lines.push(Line::End)?;
-    let gate = Masks {
-        first: AtomicU64::new(0),
-        second: AtomicU64::new(0),
-        alone: AtomicBool::new(false),
-    };
+    let gate = Masks::new();
     let mut checker = Checker::new(alloc, &clauses, &bits, Some(&values))?;
     let word = match checker.step_block(rt, &gate, &lines)? {
         Step::Accepted => "accepted",
         Step::Refused { .. } => "refused",
     };
-    format!(in alloc;
-        "{}, places {} and {}, alone: {}",
-        word,
-        gate.first.load(Ordering::SeqCst),
-        gate.second.load(Ordering::SeqCst),
-        gate.alone.load(Ordering::SeqCst)
-    )
+    let places = gate.text(alloc)?;
+    format!(in alloc; "{word}, {places}")
 }

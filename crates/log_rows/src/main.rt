@@ -16,6 +16,7 @@ mod log_row;
 mod logs;
 mod output;
 mod pairs;
+mod parts;
 mod search_row;
 mod steps;
 mod trails;
@@ -66,6 +67,7 @@ fn checked<R: Threads + Sync>(
             least_reasons::answer_least(alloc, budget, vars, structure, rest)?
         }
         ["halves"] => halves::answer(rt, alloc)?,
+        ["parts", budget, vars, rest @ ..] => parts::answer(rt, alloc, budget, vars, rest)?,
         _ => return Ok(Vec::new(alloc)),
     };
     let mut line = text.into_bytes();

@@ -46,7 +46,7 @@ pub fn answer<R: Threads + Sync>(
 }
 
 /// The values of bits in a model.
-fn values_of(alloc: Global, model: &[bool], bits: &[Lit]) -> Result<Vec<bool>, AllocError> {
+pub fn values_of(alloc: Global, model: &[bool], bits: &[Lit]) -> Result<Vec<bool>, AllocError> {
     let mut values = Vec::new(alloc);
     for bit in bits {
         let value = model.get(bit.var.0 as usize).copied().unwrap_or(false);

@@ -20,7 +20,7 @@ use Rattle.graph_formulas.specs.Facts.{GraphWord, word_said, provides_as, has_or
 use Rattle.graph_formulas.specs.Lists.{◌and◌, each_keeps}
 use Rattle.graph_formulas.specs.Words.{rule_said}
 use Rattle.graph_formulas.specs.Built.{entry_rule, compiler_rule}
-use Rattle.graph_formulas.specs.Edges.{empty_kinds}
+use Rattle.graph_formulas.specs.Edges.{no_kinds}
 use Rattle.graph_formulas.specs.Kept.{joined_rule, same_origin, installs, same_rule, kinds_rule, is_child_name, child_rule, recorded_rule, origin_rule, kept_rule}
 use Rattle.word_formulas.specs.Builders.{no_paths, plain_said}
 use Rattle.node_formulas.proofs.Alike.{Alike, same-words, given-alike, written-alike, named-alike, each-alike, some-alike}
@@ -61,7 +61,7 @@ module _ (path : Text → Text → Statement) (t : Table) where
       origin-alike name (External place) = (
         named-alike f g (λ entry. same_rule name (external_node problem name place entry)) (λ entry. same-alike name (external_node problem name place entry))
             (slice_get (externals_in (package_entry_of problem name)) place),
-        each-alike f g (λ child. isnt (fact (has_edge name child empty_kinds))) (λ child. refl) children,
+        each-alike f g (λ child. isnt (fact (has_edge name child no_kinds))) (λ child. refl) children,
       )
       origin-alike name (Installed hash) = named-alike f g
           (λ entry. same_rule name (installed_node entry) and each_keeps (child_rule problem children name) (kept_dependencies entry) and

@@ -10,7 +10,7 @@ use Rattle.problem.specs.Records.{kept_dependencies}
 use Rattle.reuse_db.specs.declared.record.Record.{Record}
 use Rattle.graph_formulas.specs.Facts.{GraphWord, Variants, node_has, has_version, has_variants, has_edge}
 use Rattle.graph_formulas.specs.Lists.{◌and◌, settled_test, one_keeps, each_keeps}
-use Rattle.graph_formulas.specs.Edges.{empty_kinds}
+use Rattle.graph_formulas.specs.Edges.{no_kinds}
 use Rattle.graph_formulas.specs.Kept.{joined_rule, same_rule, is_child_name}
 
 -- the node of the name has this name, version and variants
@@ -25,7 +25,7 @@ dependency_rule problem name d = one_keeps (record_at problem d.hash) (λ child.
 
 -- an edge goes to a child of the record
 abbrev pub edge_rule : Problem → Text → Record → Text → Proposition GraphWord
-edge_rule problem name entry child = if_so (fact (has_edge name child empty_kinds)) (settled_test (is_child_name problem entry child))
+edge_rule problem name entry child = if_so (fact (has_edge name child no_kinds)) (settled_test (is_child_name problem entry child))
 
 -- the node is that of the record, with just the edges to its children
 abbrev pub record_rule : Problem → List Text → Text → Record → Proposition GraphWord

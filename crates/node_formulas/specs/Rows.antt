@@ -6,7 +6,7 @@ use Rattle.graph_core.specs.Graphs.{Text}
 use Rattle.literal_table.specs.Tables.{Table}
 use Rattle.graph_formulas.specs.Facts.{is_there, has_origin, provides_as}
 use Rattle.graph_formulas.specs.Words.{names_for}
-use Rattle.graph_formulas.specs.Terms.{builds_node}
+use Rattle.graph_formulas.specs.Terms.{builds}
 use Rattle.graph_formulas.specs.Laws.{table_names, virtuals_of}
 use Rattle.word_formulas.specs.Builders.{node_said, plain_said}
 
@@ -16,7 +16,7 @@ only_if counts x = if counts then x ∷ [] else []
 
 -- where the node of the name is to be built, the formula is true
 abbrev pub built_said : Table → Text → Statement → Statement
-built_said t name rule = implication_of (node_said t name (has_origin builds_node)) rule
+built_said t name rule = implication_of (node_said t name (has_origin builds)) rule
 
 -- where the node of the name is there
 abbrev pub there_said : Table → Text → Statement → Statement

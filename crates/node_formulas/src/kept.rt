@@ -5,7 +5,7 @@ ghost use Rattle.graph_core.specs.declared.node.Origin.TheVariants.{External, In
 ghost use Rattle.problem.specs.Records.{kept_dependencies};
 ghost use Rattle.graph_formulas.specs.Facts.{has_edge, has_prefix};
 ghost use Rattle.graph_formulas.specs.Lists.{each_keeps};
-ghost use Rattle.graph_formulas.specs.Edges.{empty_kinds};
+ghost use Rattle.graph_formulas.specs.Edges.{no_kinds};
 ghost use Rattle.graph_formulas.specs.Kept.{origin_rule};
 ghost use Rattle.node_formulas.specs.Rows.{only_if};
 ghost use Rattle.graph_formulas.specs.Kept.{joined_rule};
@@ -198,7 +198,7 @@ fn no_edge(
     child: &Word,
 ) -> Result<Formula, AllocError>
     ensures { IfOk result (λ formula. formula
-        ≡ plain_said table.now (isnt (fact (has_edge name.now child.now empty_kinds)))) }
+        ≡ plain_said table.now (isnt (fact (has_edge name.now child.now no_kinds)))) }
 {
     let edge = has_edge(alloc, table, name, child.as_str(), &no_kinds())?;
     Ok(edge.negated())
@@ -211,7 +211,7 @@ fn no_edges(
     name: &str,
 ) -> Result<Formula, AllocError>
     ensures { IfOk result (λ formula. formula ≡ plain_said table.now
-        (each_keeps (λ child. isnt (fact (has_edge name.now child empty_kinds))) children.now)) }
+        (each_keeps (λ child. isnt (fact (has_edge name.now child no_kinds))) children.now)) }
 {
     each(alloc, children, |child| no_edge(alloc, table, name, child))
 }

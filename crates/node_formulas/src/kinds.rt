@@ -3,7 +3,7 @@ ghost use Rattle.std.specs.Prelude.{◌≡◌, true, IfOk};
 ghost use Rattle.clause_formulas.specs.Rules.{fact, isnt, both_of, if_so};
 ghost use Rattle.graph_formulas.specs.Facts.{has_edge};
 ghost use Rattle.graph_formulas.specs.Lists.{settled_test};
-ghost use Rattle.graph_formulas.specs.Edges.{empty_kinds};
+ghost use Rattle.graph_formulas.specs.Edges.{no_kinds};
 ghost use Rattle.graph_formulas.specs.Kept.{kinds_rule};
 ghost use Rattle.word_formulas.specs.Builders.{plain_said};
 
@@ -15,7 +15,7 @@ use word_formulas::{given, has_edge};
 
 /// No kind.
 pub(crate) fn no_kinds() -> Kinds
-    ensures { result ≡ empty_kinds }
+    ensures { result ≡ no_kinds }
 {
     Kinds {
         build: false,
@@ -25,7 +25,7 @@ pub(crate) fn no_kinds() -> Kinds
 }
 
 fn build_kind() -> Kinds
-    ensures { result ≡ record empty_kinds { build = true } }
+    ensures { result ≡ record no_kinds { build = true } }
 {
     Kinds {
         build: true,
@@ -35,7 +35,7 @@ fn build_kind() -> Kinds
 }
 
 fn link_kind() -> Kinds
-    ensures { result ≡ record empty_kinds { link = true } }
+    ensures { result ≡ record no_kinds { link = true } }
 {
     Kinds {
         build: false,
@@ -45,7 +45,7 @@ fn link_kind() -> Kinds
 }
 
 fn run_kind() -> Kinds
-    ensures { result ≡ record empty_kinds { run = true } }
+    ensures { result ≡ record no_kinds { run = true } }
 {
     Kinds {
         build: false,
@@ -81,7 +81,7 @@ fn kept_kinds(
 ) -> Result<Formula, AllocError>
     ensures { IfOk result (λ formula. formula ≡ plain_said table.now
         (both_of (fact (has_edge name.now child.now kept.now))
-        (isnt (fact (has_edge name.now child.now (record empty_kinds { build = true })))))) }
+        (isnt (fact (has_edge name.now child.now (record no_kinds { build = true })))))) }
 {
     let there = has_edge(alloc, table, name, child, kept)?;
     let build = has_edge(alloc, table, name, child, &build_kind())?;

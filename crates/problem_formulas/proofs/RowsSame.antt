@@ -8,7 +8,7 @@ use Rattle.problem.specs.Problems.{Problem}
 use Rattle.literal_table.specs.Tables.{Table, table_names, children_of}
 use Rattle.graph_formulas.specs.Facts.{has_origin}
 use Rattle.graph_formulas.specs.Words.{names_for}
-use Rattle.graph_formulas.specs.Terms.{builds_node, known_rule, where_built}
+use Rattle.graph_formulas.specs.Terms.{builds, known_rule, where_built}
 use Rattle.graph_formulas.specs.Built.{version_rule, machine_rule}
 use Rattle.graph_formulas.specs.Edges.{extra_edges_rule, used_rule, of_provider}
 use Rattle.graph_formulas.specs.Together.{together_rule}
@@ -53,14 +53,14 @@ module _ (path : Text → Text → Statement) (condition : Text → Condition �
       (map (λ name. term_formula path condition t (where_built name (variants_rule problem (variants_of t name) name)))
       (table_names t)) ≡ variant_row problem t condition
   variants-same =
-      ap all_statements (map-agree _ _ (λ name. ap (λ s. implication_of (node_said t name (has_origin builds_node)) s)
+      ap all_statements (map-agree _ _ (λ name. ap (λ s. implication_of (node_said t name (has_origin builds)) s)
       (variants-agree path condition t problem (variants_of t name) name)) (table_names t))
 
   extra-same : all_statements
       (map (λ name. term_formula path condition t (where_built name (extra_edges_rule problem (names_for t) (virtuals_on t name) (children_of t name) name)))
       (table_names t)) ≡ extra_row problem t condition
   extra-same = ap all_statements
-      (map-agree _ _ (λ name. ap (λ s. implication_of (node_said t name (has_origin builds_node)) s)
+      (map-agree _ _ (λ name. ap (λ s. implication_of (node_said t name (has_origin builds)) s)
       (extras-agree path condition t problem (virtuals_on t name) (children_of t name) name)) (table_names t))
 
   used-same : all_statements

@@ -4,6 +4,7 @@ use Rattle.std.specs.List.{list_any}
 use Rattle.std.specs.Str.{bytes_eq}
 use Rattle.spec_grammar.specs.declared.part.Part.{Part}
 use Rattle.spec_grammar.specs.declared.part.Spec.{Spec}
+use Rattle.graph_core.specs.Graphs.{has_kind}
 use Rattle.graph_core.specs.declared.node.Kinds.{Kinds}
 use Rattle.recipe_data.specs.OfSpecGrammar.Condition.{Condition}
 use Rattle.recipe_data.specs.declared.recipe.ProvideRow.{ProvideRow}
@@ -50,9 +51,6 @@ add_variant place number (Some name) o when recipe = with_variant_row place numb
 
 -- ---- depends_on
 
-abbrev pub has_some_kind : Kinds → Bool
-has_some_kind kinds = kinds.build || kinds.link || kinds.run
-
 abbrev pub is_language : List ℕ → Bool
 is_language w = bytes_eq w (codes "c") || bytes_eq w (codes "cxx") || bytes_eq w (codes "fortran")
 
@@ -68,7 +66,7 @@ is_bare p =
 
 -- needed for tests alone, or a language of a compiler
 abbrev pub is_passed_over : Kinds → Part → Bool
-is_passed_over kinds p = not (has_some_kind kinds) || (is_bare p && names_language p.name)
+is_passed_over kinds p = not (has_kind kinds) || (is_bare p && names_language p.name)
 
 abbrev pub add_depends : ℕ → ℕ → Option Part → Kinds → Condition → Recipe → RecipeStep Recipe
 add_depends place number None kinds when recipe = Err (fault.BadArgument place)

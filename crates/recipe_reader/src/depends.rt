@@ -2,8 +2,9 @@
 
 ghost use Rattle.std.specs.Prelude.{◌≡◌};
 ghost use Rattle.std.specs.Str.{bytes_eq};
+ghost use Rattle.graph_core.specs.Graphs.{has_kind};
 ghost use Rattle.recipe_reader.specs.Results.{Gives};
-ghost use Rattle.recipe_reader.specs.Rows.{has_some_kind, is_language, names_language, is_bare, is_passed_over, add_depends};
+ghost use Rattle.recipe_reader.specs.Rows.{is_language, names_language, is_bare, is_passed_over, add_depends};
 
 use crate::RecipeFault;
 use graph_core::Kinds;
@@ -20,7 +21,7 @@ fn is(text: &[u8], wanted: &[u8]) -> bool
 
 /// Whether a dependency is needed for anything but tests.
 fn has_kind(kinds: Kinds) -> bool
-    ensures { result ≡ has_some_kind kinds }
+    ensures { result ≡ has_kind kinds }
 {
     kinds.build || kinds.link || kinds.run
 }

@@ -18,7 +18,7 @@ use Rattle.literal_table.specs.Tables.{Table, packages_of}
 use Rattle.problem.specs.Problems.{Problem, world_of}
 use Rattle.virtuals.specs.Virtuals.{is_virtual}
 use Rattle.graph_formulas.specs.Facts.{GraphWord, word_said}
-use Rattle.graph_formulas.specs.Lists.{some, first_rules, apart_rules, half_length, halves_rule, few_rules, just_one}
+use Rattle.graph_formulas.specs.Lists.{some, first_rules, apart_rules, half_count, halves_rule, few_rules, just_one}
 use Rattle.graph_formulas.specs.Parts.{holds_rule}
 use Rattle.graph_formulas.specs.Words.{names_for, rule_said}
 use Rattle.graph_formulas.specs.Terms.{Term, term_said, known_rule}
@@ -97,8 +97,8 @@ module _ (path : Text → Text → Statement) (condition : Text → Condition �
     unfolding few_rules
     few-known zero xs = apart-known xs
     few-known (suc times) xs =
-        let front = take (half_length xs) xs in
-        let back = drop (half_length xs) xs in
+        let front = take (half_count xs) xs in
+        let back = drop (half_count xs) xs in
         elim (nat_lt 8 (length xs)) as (λ b. words (if b then halves_rule rule front back ∷ (few_rules times rule front ++ few_rules times rule back) else apart_rules rule xs)
         ≡ terms (if b then halves_rule known front back ∷ (few_rules times known front ++ few_rules times known back) else apart_rules known xs)) [
           | true ↦ ap (λ f. f ∷ words (few_rules times rule front ++ few_rules times rule back)) (halves-known front back)

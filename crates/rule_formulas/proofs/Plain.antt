@@ -12,7 +12,7 @@ use Rattle.graph_formulas.specs.Edges.{names_virtual}
 use Rattle.graph_formulas.specs.Facts.{provides_as, has_edge, has_virtual}
 use Rattle.graph_formulas.specs.Words.{names_for}
 use Rattle.graph_formulas.specs.Terms.{Term, known, term_said, known_rule, met_rule}
-use Rattle.graph_formulas.specs.Edges.{empty_kinds, asks_rule, may_ask, kind_rule, virtual_rule, extra_edge_rule, extra_edges_rule, use_rule, used_rule, of_provider}
+use Rattle.graph_formulas.specs.Edges.{no_kinds, asks_rule, may_ask, kind_rule, virtual_rule, extra_edge_rule, extra_edges_rule, use_rule, used_rule, of_provider}
 use Rattle.word_formulas.specs.Builders.{no_paths}
 use Rattle.word_formulas.proofs.PathFree.{each-agree, some-agree}
 use Rattle.word_formulas.proofs.PathFreeRows.{asks_child-agree}
@@ -39,9 +39,9 @@ module _ (path : Text → Text → Statement) (condition : Text → Condition �
 
   extra-agree : (virtuals : List Text) (name child : Text) → in_words f (extra_edge_rule problem (names_for table) virtuals name child) ≡ in_words g (extra_edge_rule problem (names_for table) virtuals name child)
   extra-agree virtuals name child = both-same _ _ _ _ (both-same _ _ _ _ (both-same _ _ _ _
-      (kind-agree (record empty_kinds { build = true }) (λ kinds. kinds.build) name child)
-      (kind-agree (record empty_kinds { link = true }) (λ kinds. kinds.link) name child))
-      (kind-agree (record empty_kinds { run = true }) (λ kinds. kinds.run) name child))
+      (kind-agree (record no_kinds { build = true }) (λ kinds. kinds.build) name child)
+      (kind-agree (record no_kinds { link = true }) (λ kinds. kinds.link) name child))
+      (kind-agree (record no_kinds { run = true }) (λ kinds. kinds.run) name child))
       (each-agree f g (virtual_rule problem (names_for table) name child) (virtual-agree name child) virtuals)
 
   -- the rule of edges, for all formulas of paths

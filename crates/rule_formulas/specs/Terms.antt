@@ -20,7 +20,7 @@ use Rattle.graph_formulas.specs.Parts.{holds_rule}
 use Rattle.graph_formulas.specs.Words.{names_for, rule_said}
 use Rattle.graph_formulas.specs.Terms.{Term}
 use Rattle.graph_formulas.specs.Directives.{root_rule, requirement_rule}
-use Rattle.graph_formulas.specs.Edges.{empty_kinds}
+use Rattle.graph_formulas.specs.Edges.{no_kinds}
 use Rattle.graph_formulas.specs.Demands.{demand_rule}
 use Rattle.graph_formulas.specs.Laws.{has_name, term_formula}
 use Rattle.word_formulas.specs.Builders.{no_paths}
@@ -38,9 +38,9 @@ no_conditions name when = never
 -- ---- kinds of edges
 
 abbrev pub kinds_of : EdgeKind → Kinds
-kinds_of kind.Build = record empty_kinds { build = true }
-kinds_of kind.Link = record empty_kinds { link = true }
-kinds_of kind.Run = record empty_kinds { run = true }
+kinds_of kind.Build = record no_kinds { build = true }
+kinds_of kind.Link = record no_kinds { link = true }
+kinds_of kind.Run = record no_kinds { run = true }
 
 abbrev pub has_of : EdgeKind → Kinds → Bool
 has_of kind.Build = λ kinds. kinds.build

@@ -1,47 +1,23 @@
 //! Formulas of the variants of a node to build.
-ghost use Rattle.std.specs.Prelude.{◌≡◌, ◌++◌, ◌∷◌, [], map, filter, IfOk, OnOk};
-ghost use Rattle.std.specs.Str.{bytes_eq};
+ghost use Rattle.std.specs.Prelude.{◌≡◌, ◌++◌, ◌∷◌, [], map, IfOk, OnOk};
 ghost use Rattle.clause_formulas.specs.Statements.{any_statement, both_statements, opposite};
 ghost use Rattle.graph_formulas.specs.Variants.{variant_rule, variants_rule};
 ghost use Rattle.graph_formulas.specs.Laws.{variants_of};
 ghost use Rattle.rule_formulas.specs.Terms.{plain_term};
 ghost use Rattle.rule_formulas.specs.Governing.{met_said, governs_said, last_parts, last_said};
 
+use crate::definitions::Definitions;
 use clause_formulas::Formula;
 use clause_store::Lit;
 use literal_table::LiteralTable;
 use plain_data::{List, Word};
-use problem::{Problem, variants_at};
+use problem::Problem;
 use recipe_data::VariantRow;
 use std::alloc::{AllocError, Global};
 use word_formulas::{MetConditions, allows_formula, each, has_variant, some};
 
 /// How many definitions are kept apart one by one.
 const SHORT: usize = 8;
-
-fn defines(row: &VariantRow, variant: &str) -> bool
-    ensures { result ≡ bytes_eq row.now.name variant.now }
-{
-    row.name.as_str() == variant
-}
-
-/// The definitions of the variant, in the order of the recipe.
-fn definitions_of<'a>(
-    alloc: Global,
-    rows: &'a [VariantRow],
-    variant: &str,
-) -> Result<Vec<&'a VariantRow>, AllocError>
-    ensures { IfOk result (λ found. map (λ row. row.now) found.items
-        ≡ filter (λ row. bytes_eq row.name variant.now) rows.now) }
-{
-    let mut found = Vec::new(alloc);
-    for row in rows {
-        if defines(row, variant) {
-            found.push(row)?;
-        }
-    }
-    Ok(found)
-}
 
 /// The condition of some of these definitions is met.
 fn met_formula<C: MetConditions>(
@@ -171,16 +147,16 @@ fn last_formula<C: MetConditions>(
 /// The variant is there just where it has a governing definition, which allows its values.
 fn variant_formula<C: MetConditions>(
     alloc: Global,
-    problem: &Problem,
+    definitions: &Definitions,
     table: &LiteralTable,
     conditions: &C,
-    name: &str,
     variant: &str,
 ) -> Result<Formula, AllocError>
     ensures { IfOk result (λ formula. formula ≡ plain_term table.now (C.condition_of conditions.now)
-        (variant_rule problem.now name.now variant.now)) }
+        (variant_rule definitions.now.0 definitions.now.1 variant.now)) }
 {
-    let found = definitions_of(alloc, variants_at(problem, name), variant)?;
+    let name = definitions.name();
+    let found = definitions.of(alloc, variant)?;
     let rows = found.as_slice();
     let met = met_formula(alloc, conditions, name, rows)?;
     let there = has_variant(alloc, table, name, variant)?;
@@ -203,8 +179,9 @@ fn all_variants<C: MetConditions>(
     ensures { IfOk result (λ formula. formula ≡ plain_term table.now (C.condition_of conditions.now)
         (variants_rule problem.now (map (λ v. v.0) variants.now) name.now)) }
 {
+    let definitions = Definitions::new(alloc, problem, name)?;
     each(alloc, variants, |v| {
-        variant_formula(alloc, problem, table, conditions, name, v.0.as_str())
+        variant_formula(alloc, &definitions, table, conditions, v.0.as_str())
     })
 }
 

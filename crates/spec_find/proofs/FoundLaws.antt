@@ -19,7 +19,7 @@ use Rattle.condition_rules.specs.OfSpecGrammar.Spec.{Spec}
 use Rattle.condition_rules.specs.Worlds.{World}
 use Rattle.condition_rules.specs.Meets.{meets}
 use Rattle.spec_find.specs.declared.order.Placed.{Placed}
-use Rattle.spec_find.specs.Found.{IsMetBelow, MeetsSpec, AreFound, hash_at, installed_node}
+use Rattle.spec_find.specs.Found.{IsMetBelow, MeetsSpec, AreFound, placed_hash, installed_node}
 use Rattle.spec_find.specs.Orders.{hash_of, AreByHash}
 use Rattle.spec_find.specs.Marks.{AreMarks, MeetsParts}
 use Rattle.spec_find.proofs.OrderLaws.{got_lt, got_is, hash_there, record_there, in_order-filter}
@@ -114,13 +114,13 @@ module _ (world : World) (records : List Record) (spec : Spec) (order : List Pla
   abbrev place_of : Placed → ℕ
   place_of placed = placed.place
 
-  same_hash : (placed : Placed) → IsAt (hashes_of records) (hash_of placed) placed.place → hash_at records placed.place ≡ hash_of placed
+  same_hash : (placed : Placed) → IsAt (hashes_of records) (hash_of placed) placed.place → placed_hash records placed.place ≡ hash_of placed
   same_hash placed at = get_or_default (hashes_of records) placed.place [] (hash_of placed) at.0 ∙ at.1
 
-  hashes_same : map (hash_at records) (map place_of (filter is_marked order)) ≡ map hash_of (filter is_marked order)
-  hashes_same = mapped_twice place_of (hash_at records) (filter is_marked order)
-      ∙ map_agree (λ p. hash_at records (place_of p)) hash_of (filter is_marked order)
-      (all_from (λ p. hash_at records (place_of p) ≡ hash_of p) (filter is_marked order) (λ p has.
+  hashes_same : map (placed_hash records) (map place_of (filter is_marked order)) ≡ map hash_of (filter is_marked order)
+  hashes_same = mapped_twice place_of (placed_hash records) (filter is_marked order)
+      ∙ map_agree (λ p. placed_hash records (place_of p)) hash_of (filter is_marked order)
+      (all_from (λ p. placed_hash records (place_of p) ≡ hash_of p) (filter is_marked order) (λ p has.
       same_hash p (All-contains (λ (x : Placed). IsAt (hashes_of records) (hash_of x) x.place) order p are.places
       (from_filter is_marked order p has).0)))
 

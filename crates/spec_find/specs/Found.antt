@@ -60,11 +60,11 @@ pub record MeetsSpec (world : World) (records : List Record) (spec : Spec) (entr
   pub below : All (IsMetBelow world records entry) spec.below
 
 -- the hash of the record at a place
-abbrev pub hash_at : List Record → ℕ → Text
-hash_at records place = slice_index_or (hashes_of records) place []
+abbrev pub placed_hash : List Record → ℕ → Text
+placed_hash records place = slice_index_or (hashes_of records) place []
 
 -- the places of exactly the records that meet the spec, once and by bytes of their hashes
 pub record AreFound (world : World) (records : List Record) (spec : Spec) (places : List ℕ) : Type 0 where
-  pub order : IsInOrder byte_cmp (hash_at records) places
+  pub order : IsInOrder byte_cmp (placed_hash records) places
   pub exact : (place : ℕ) → Contains places place
       ↔ ((entry : Record) × (slice_get records place ≡ Some entry) × MeetsSpec world records spec entry)

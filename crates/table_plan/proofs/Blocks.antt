@@ -15,7 +15,7 @@ use Rattle.problem.specs.Problems.{same_compiler}
 use Rattle.literal_table.specs.Choices.{Choices, chosen}
 use Rattle.literal_table.specs.Tables.{AreVariantsInOrder, variant_of, value_of}
 use Rattle.literal_table.specs.Spells.{SpellsNode, values_at, variants_of}
-use Rattle.table_plan.specs.Plans.{is_same_origin}
+use Rattle.table_plan.specs.Plans.{same_origin}
 use Rattle.table_plan.specs.Offers.{Offers, OffersVariant, IsPossible, AreVariants}
 use Rattle.table_plan.specs.declared.plan.Possible.{Possible}
 use Rattle.table_plan.proofs.NodeLaws.{origins_exact, options_exact, compilers_exact}
@@ -102,7 +102,7 @@ next_part v m bs cs k e r =
 -- a node has as many bits as its block has variables
 pub length-node_bits : (p : Possible) (o : Option Node) → length (node_bits p o) ≡ block_width p
 length-node_bits p o =
-    let a = bits_of is_same_origin (λ (node : Node). node.origin) p.origins o in
+    let a = bits_of same_origin (λ (node : Node). node.origin) p.origins o in
     let b = bits_of bytes_eq (λ (node : Node). node.version) p.versions o in
     let c = value_bits p.variants (variants_of o) in
     let d = bits_of (option_eq same_compiler) (λ (node : Node). node.compiler) p.compilers o in
@@ -117,7 +117,7 @@ length-node_bits p o =
       length-append d (e ++ (f ++ g)),
       length-append e (f ++ g),
       length-append f g,
-      length-bits_of is_same_origin (λ (node : Node). node.origin) p.origins o,
+      length-bits_of same_origin (λ (node : Node). node.origin) p.origins o,
       length-bits_of bytes_eq (λ (node : Node). node.version) p.versions o,
       length-value_bits p.variants (variants_of o),
       length-bits_of (option_eq same_compiler) (λ (node : Node). node.compiler) p.compilers o,
@@ -142,7 +142,7 @@ module _ (v : ℕ → Bool) (n : ℕ) (p : Possible) (o : Option Node) (is : IsP
   pub node_read : Reads v n (node_bits p o) → SpellsNode v (block_from n p) o
   unfolding block_from
   node_read r =
-      let a = bits_of is_same_origin (λ (node : Node). node.origin) p.origins o in
+      let a = bits_of same_origin (λ (node : Node). node.origin) p.origins o in
       let b = bits_of bytes_eq (λ (node : Node). node.version) p.versions o in
       let c = value_bits p.variants (variants_of o) in
       let d = bits_of (option_eq same_compiler) (λ (node : Node). node.compiler) p.compilers o in
@@ -150,7 +150,7 @@ module _ (v : ℕ → Bool) (n : ℕ) (p : Possible) (o : Option Node) (is : IsP
       let f = bits_of bytes_eq (λ (node : Node). node.target) p.targets o in
       let g = bits_of (option_eq bytes_eq) (λ (node : Node). node.prefix) p.prefixes o in
       let ra = next_part v (n + 1) a (b ++ (c ++ (d ++ (e ++ (f ++ g))))) (width_of p.origins)
-      (length-bits_of is_same_origin (λ (node : Node). node.origin) p.origins o) r.1 in
+      (length-bits_of same_origin (λ (node : Node). node.origin) p.origins o) r.1 in
       let rb = next_part v _ b (c ++ (d ++ (e ++ (f ++ g)))) (width_of p.versions)
       (length-bits_of bytes_eq (λ (node : Node). node.version) p.versions o) ra.1 in
       let rc = next_part v _ c (d ++ (e ++ (f ++ g))) (value_count p.variants) (length-value_bits p.variants (variants_of o)) rb.1 in
@@ -161,7 +161,7 @@ module _ (v : ℕ → Bool) (n : ℕ) (p : Possible) (o : Option Node) (is : IsP
       let ordered = block_ordered n p is in
       record {
         present = r.0;
-        origin = attribute_reads v is_same_origin origins_exact (λ node. node.origin) (positive_lit n) _ p.origins o is.origins r.0
+        origin = attribute_reads v same_origin origins_exact (λ node. node.origin) (positive_lit n) _ p.origins o is.origins r.0
             (λ node s. (offers node s).origin) ra.0;
         version = attribute_reads v bytes_eq bytes_decides (λ node. node.version) (positive_lit n) _ p.versions o is.versions r.0
             (λ node s. (offers node s).version) rb.0;

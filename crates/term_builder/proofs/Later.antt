@@ -8,7 +8,7 @@ use Rattle.graph_core.specs.Graphs.{Text}
 use Rattle.std.specs.Str.{bytes_eq}
 use Rattle.keyed_lists.specs.Lent.{lent, with_text, IsIndexOf}
 use Rattle.keyed_lists.proofs.Lent.{filter_mapped}
-use Rattle.cost_terms.specs.Blocks.{block_of, blocks_of, none_among}
+use Rattle.cost_terms.specs.Blocks.{any_gated, blocks_of, none_among}
 use Rattle.cost_terms.specs.Governing.{Row, of_variant, formulas_of}
 use Rattle.term_builder.specs.VariantTerms.{Held, row_said, rows_of, governs}
 
@@ -46,7 +46,7 @@ blocks-short (suc times) size fs some lt =
 
 -- one is
 pub blocks-cut : (times size : ℕ) (fs : List Statement) → (times ≡ 0 → ⊥) → (length fs < size → ⊥)
-    → blocks_of times size fs ≡ block_of (drop (length fs - size) fs) ∷ blocks_of (times - 1) (size / 2) (take (length fs - size) fs)
+    → blocks_of times size fs ≡ any_gated (drop (length fs - size) fs) ∷ blocks_of (times - 1) (size / 2) (take (length fs - size) fs)
 unfolding blocks_of
 blocks-cut zero size fs some ge = absurd (some refl)
 blocks-cut (suc times) size fs some ge =
@@ -57,11 +57,11 @@ blocks-cut (suc times) size fs some ge =
 -- the block is pushed, and the blocks of what is left stand behind it
 pub blocks-joined : (old pushed fs front back : List Statement) (times size : ℕ) (block : Statement) → (times ≡ 0 → ⊥)
     → (length fs < size → ⊥)
-    → front ≡ take (length fs - size) fs → back ≡ drop (length fs - size) fs → block ≡ block_of back → pushed ≡ old ++ block ∷ []
+    → front ≡ take (length fs - size) fs → back ≡ drop (length fs - size) fs → block ≡ any_gated back → pushed ≡ old ++ block ∷ []
     → pushed ++ blocks_of (times - 1) (size / 2) front ≡ old ++ blocks_of times size fs
 blocks-joined old pushed fs front back times size block some ge f b k p =
     ap (λ gs. gs ++ blocks_of (times - 1) (size / 2) front) p
     ∙ append_assoc old (block ∷ []) (blocks_of (times - 1) (size / 2) front)
     ∙ ap (λ gs. old ++ block ∷ blocks_of (times - 1) (size / 2) gs) f
-    ∙ ap (λ g. old ++ g ∷ blocks_of (times - 1) (size / 2) (take (length fs - size) fs)) (k ∙ ap block_of b)
+    ∙ ap (λ g. old ++ g ∷ blocks_of (times - 1) (size / 2) (take (length fs - size) fs)) (k ∙ ap any_gated b)
     ∙ ap (λ gs. old ++ gs) (sym (blocks-cut times size fs some ge))

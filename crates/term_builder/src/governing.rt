@@ -1,7 +1,7 @@
 //! Which definition of a variant governs.
 ghost use Rattle.std.specs.Prelude.{◌≡◌, ◌++◌, IfOk, OnOk};
 ghost use Rattle.clause_formulas.specs.Drafts.{statement_of};
-ghost use Rattle.cost_terms.specs.Blocks.{block_of, blocks_of, none_among};
+ghost use Rattle.cost_terms.specs.Blocks.{any_gated, blocks_of, none_among};
 ghost use Rattle.cost_terms.specs.Governing.{formulas_of};
 ghost use Rattle.term_builder.specs.VariantTerms.{rows_of, governs};
 
@@ -32,7 +32,7 @@ fn push_conditions(
 
 // Some formula of the list, behind a gate.
 fn block(alloc: Global, parts: Vec<Formula>) -> Result<Formula, AllocError>
-    ensures { IfOk result (λ formula. formula ≡ block_of parts.items) }
+    ensures { IfOk result (λ formula. formula ≡ any_gated parts.items) }
 {
     let mut whole = Vec::new(alloc);
     whole.push(Formula::any(parts))?;

@@ -28,11 +28,11 @@ use Rattle.literal_table.specs.declared.block.Block.{Block}
 use Rattle.literal_table.proofs.Spelling.{found-named}
 use Rattle.table_plan.specs.Gathering.{gathered, listed}
 use Rattle.table_plan.specs.Kept.{external_nodes, kept_nodes}
-use Rattle.table_plan.specs.Plans.{is_same_origin, can_build, offered, variant_names, variant_values, possible_at, plan_of}
+use Rattle.table_plan.specs.Plans.{same_origin, can_build, offered, variant_names, variant_values, possible_at, plan_of}
 use Rattle.table_plan.proofs.GatherLaws.{from_gathered}
 use Rattle.table_plan.proofs.NodeLaws.{origins_exact}
 use Rattle.table_plan.specs.Numbers.{positive_lit, numbered, attribute, variants_from, block_width, block_from, blocks_from, table_from}
-use Rattle.graph_formulas.specs.Terms.{builds_node}
+use Rattle.graph_formulas.specs.Terms.{builds}
 use Rattle.graph_formulas.specs.Laws.{variants_in, variants_of}
 use Rattle.graph_formulas.proofs.AllVariants.{among-In}
 use Rattle.valid_models.specs.Tables.{table_for}
@@ -60,18 +60,18 @@ pair-keys f (x ∷ xs) = ap (λ ys. x ∷ ys) (pair-keys f xs)
 -- ---- kept nodes are not built
 
 external-kept : (problem : Problem) (name : Text) (k : ℕ) (es : List ExternalEntry) (rest : List Node)
-    → list_any builds_node (map (λ node. node.origin) rest) ≡ false
-    → list_any builds_node (map (λ node. node.origin) (external_nodes problem name k es ++ rest)) ≡ false
+    → list_any builds (map (λ node. node.origin) rest) ≡ false
+    → list_any builds (map (λ node. node.origin) (external_nodes problem name k es ++ rest)) ≡ false
 unfolding external_node
 external-kept problem name k [] rest h = h
 external-kept problem name k (e ∷ es) rest h = external-kept problem name (k + 1) es rest h
 
-installed-kept : (es : List Record) → list_any builds_node (map (λ node. node.origin) (map installed_node es)) ≡ false
+installed-kept : (es : List Record) → list_any builds (map (λ node. node.origin) (map installed_node es)) ≡ false
 unfolding installed_node
 installed-kept [] = refl
 installed-kept (e ∷ es) = installed-kept es
 
-none-built : (problem : Problem) (name : Text) → list_any builds_node (map (λ node. node.origin) (kept_nodes problem name)) ≡ false
+none-built : (problem : Problem) (name : Text) → list_any builds (map (λ node. node.origin) (kept_nodes problem name)) ≡ false
 unfolding kept_nodes
 none-built problem name = external-kept problem name 0 (externals_in (package_entry_of problem name)) _ (installed-kept _)
 
@@ -79,16 +79,16 @@ module _ (problem : Problem) (name : Text) where
   abbrev origins : Bool → List Origin
   origins b = listed b (Built ∷ []) ++ map (λ node. node.origin) (kept_nodes problem name)
 
-  only-buildable : (b : Bool) → list_any builds_node (gathered is_same_origin [] (origins b)) ≡ true → b ≡ true
+  only-buildable : (b : Bool) → list_any builds (gathered same_origin [] (origins b)) ≡ true → b ≡ true
   only-buildable true h = refl
   only-buildable false h =
-      let at = from_any builds_node (gathered is_same_origin [] (origins false)) h in
+      let at = from_any builds (gathered same_origin [] (origins false)) h in
       let there = ⊎_elim (λ none. absurd (omega (arith, none.1))) (λ kept. kept)
-      (from_gathered is_same_origin origins_exact [] (origins false) at.0 at.1) in
+      (from_gathered same_origin origins_exact [] (origins false) at.0 at.1) in
       absurd (false≢true (sym (none-built problem name)
-      ∙ any_of builds_node (map (λ node. node.origin) (kept_nodes problem name)) at.0 there at.2))
+      ∙ any_of builds (map (λ node. node.origin) (kept_nodes problem name)) at.0 there at.2))
 
-  offers-buildable : list_any builds_node (offered is_same_origin problem name (Built ∷ []) (λ node. node.origin)) ≡ true
+  offers-buildable : list_any builds (offered same_origin problem name (Built ∷ []) (λ node. node.origin)) ≡ true
       → can_build problem name ≡ true
   unfolding offered
   offers-buildable h = only-buildable (can_build problem name) h
@@ -101,13 +101,13 @@ module _ (problem : Problem) (name : Text) where
       (in_texts [] _ x (inl (Contains-append_left _ _ x (subst (λ b. Contains (listed b (map (λ row. row.name) (variants_at problem name))) x) (sym is)
       (In-contains (map (λ row. row.name) (variants_at problem name)) x there)))))))
 
-  block-has : (k : ℕ) → list_any builds_node (choices.choice_values (block_from k (possible_at problem name)).origins) ≡ true
+  block-has : (k : ℕ) → list_any builds (choices.choice_values (block_from k (possible_at problem name)).origins) ≡ true
       → list_all (is_one_text (map variant_of (block_from k (possible_at problem name)).variants))
       (map (λ row. row.name) (variants_at problem name)) ≡ true
   unfolding block_from possible_at
   block-has k h =
-      let can = offers-buildable (ap (list_any builds_node)
-      (sym (attribute-offers (positive_lit k) (k + 1) (offered is_same_origin problem name (Built ∷ []) (λ node. node.origin)))) ∙ h) in
+      let can = offers-buildable (ap (list_any builds)
+      (sym (attribute-offers (positive_lit k) (k + 1) (offered same_origin problem name (Built ∷ []) (λ node. node.origin)))) ∙ h) in
       ap (λ vs. list_all (is_one_text vs) (map (λ row. row.name) (variants_at problem name)))
       (variant-keys _ (map (λ variant. (variant, variant_values problem name variant)) (variant_names problem name)) ∙ pair-keys (variant_values problem name) (variant_names problem name))
       ∙ named can
@@ -142,7 +142,7 @@ has-built-variants problem names name b at offers =
     let same : f.1 ≡ name = sym (block-name problem f.0 f.1) ∙ ap block_name f.2
     ∙ found-named block_name (blocks_from 0 (map (possible_at problem) names)) name b at in
     let block : block_from f.0 (possible_at problem name) ≡ b = subst (λ m. block_from f.0 (possible_at problem m) ≡ b) same f.2 in
-    let has = block-has problem name f.0 (ap (λ c. list_any builds_node (choices.choice_values c.origins)) block ∙ offers) in
+    let has = block-has problem name f.0 (ap (λ c. list_any builds (choices.choice_values c.origins)) block ∙ offers) in
     let there : variants_of (table_for problem names) name ≡ map variant_of b.variants = ap variants_in at in
     ap (λ vs. list_all (is_one_text vs) (map (λ row. row.name) (variants_at problem name))) (there
     ∙ ap (λ c. map variant_of c.variants) (sym block)) ∙ has

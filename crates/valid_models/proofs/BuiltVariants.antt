@@ -27,7 +27,7 @@ use Rattle.graph_formulas.specs.Words.{names_for}
 use Rattle.graph_formulas.proofs.WordsSaid.{word-said}
 use Rattle.graph_formulas.proofs.Rules.{each-kept}
 use Rattle.graph_formulas.proofs.Kept.{by_node}
-use Rattle.graph_formulas.specs.Terms.{Term, known, met, is_true, term_said, builds_node, where_built}
+use Rattle.graph_formulas.specs.Terms.{Term, known, met, is_true, term_said, builds, where_built}
 use Rattle.graph_formulas.specs.Variants.{variant_rule, variants_rule, keeps_one_variant}
 use Rattle.graph_formulas.specs.Laws.{SpellsProblem, rule_says, variants_in, variants_of}
 use Rattle.graph_formulas.proofs.Names.{all-same, each-node-said}
@@ -60,9 +60,9 @@ module _ (problem : Problem) (v : ℕ → Bool) (path : Text → Text → Statem
 
   -- a built node's block offers to build it
   offers : (b : Block) (node : Node) → SpellsNode v b (Some node) → is_built node ≡ true
-      → list_any builds_node (choice_values b.origins) ≡ true
-  offers b node spells built = any-offered v builds_node b.origins
-      (subst (λ xs. list_any builds_node xs ≡ true) (sym spells.origin) (or_left (builds_node node.origin) false built))
+      → list_any builds (choice_values b.origins) ≡ true
+  offers b node spells built = any-offered v builds b.origins
+      (subst (λ xs. list_any builds xs ≡ true) (sym spells.origin) (or_left (builds node.origin) false built))
 
   at-block : (name : Text) (node : Node) → node_of graph name ≡ Some node → is_built node ≡ true → (c : Option Block) → block_of table name ≡ c
       → SpellsAt v c (node_of graph name) → keeps_variant problem graph node ≡ list_all (keeps_one_variant problem graph node) (variants_of table name)

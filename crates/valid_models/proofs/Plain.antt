@@ -20,7 +20,7 @@ use Rattle.reuse_db.specs.declared.record.Dependency.{Dependency}
 use Rattle.graph_formulas.specs.Facts.{GraphWord, provides_as, node_has, has_origin, has_os, has_target, has_edge}
 use Rattle.graph_formulas.specs.Lists.{◌and◌, settled_test, where_written, one_keeps, each_keeps}
 use Rattle.graph_formulas.specs.Built.{buildable_rule, version_rule, entry_rule, compiler_rule, machine_rule, provider_rule}
-use Rattle.graph_formulas.specs.Edges.{empty_kinds}
+use Rattle.graph_formulas.specs.Edges.{no_kinds}
 use Rattle.graph_formulas.specs.Kept.{joined_rule, same_origin, installs, same_rule, kinds_rule, is_child_name, child_rule, recorded_rule, origin_rule, kept_rule}
 use Rattle.graph_encoding.specs.Formulas.{PathFormulas}
 use Rattle.valid_models.proofs.Words.{AllWords, given-all, written-all, named-all, each-all, some-all}
@@ -73,7 +73,7 @@ module _ (v : ℕ → Bool) (t : Table) (path other : PathFormulas) (told : Text
       named-all W (λ entry. same_rule name (external_node problem name place entry))
           (λ entry. same-alike name (external_node problem name place entry))
           (slice_get (externals_in (package_entry_of problem name)) place),
-      each-all W (λ child. isnt (fact (has_edge name child empty_kinds))) (λ child. refl) children,
+      each-all W (λ child. isnt (fact (has_edge name child no_kinds))) (λ child. refl) children,
     )
     origin-alike name (Installed hash) = named-all W
         (λ entry. same_rule name (installed_node entry) and each_keeps (child_rule problem children name) (kept_dependencies entry) and

@@ -31,7 +31,7 @@ use Rattle.graph_formulas.specs.Lists.{settled_test, where_written}
 use Rattle.graph_formulas.specs.Words.{SpellsPaths, names_for, rule_said}
 use Rattle.graph_formulas.specs.Parts.{condition_rule, holds_rule}
 use Rattle.graph_formulas.proofs.Parts.{condition-said}
-use Rattle.graph_formulas.specs.Terms.{Term, known, met, term_said, builds_node, known_rule, where_built, where_there}
+use Rattle.graph_formulas.specs.Terms.{Term, known, met, term_said, builds, known_rule, where_built, where_there}
 use Rattle.graph_formulas.specs.Directives.{root_rule}
 use Rattle.graph_formulas.specs.Built.{buildable_rule, version_rule, compiler_rule, machine_rule, provider_rule}
 use Rattle.graph_formulas.specs.Edges.{extra_edges_rule, used_rule, of_provider}
@@ -287,9 +287,9 @@ module _ (problem : Problem) (t : Table) (told : Text → Bool) (all : list_all 
         where
           directive-alike-cases : (o : Option Block) → block_of t name ≡ o → says_path (where_built name rule) ≡ says_exact (where_built name rule)
           directive-alike-cases None at =
-              subst (λ o. eval v (implication_of (said_in (λ b. fact_said b (has_origin builds_node)) o)
+              subst (λ o. eval v (implication_of (said_in (λ b. fact_said b (has_origin builds)) o)
               (term_formula path cond_path t rule))
-              ≡ eval v (implication_of (said_in (λ b. fact_said b (has_origin builds_node)) o) (term_formula exact cond_exact t rule)))
+              ≡ eval v (implication_of (said_in (λ b. fact_said b (has_origin builds)) o) (term_formula exact cond_exact t rule)))
               (sym at) refl
           directive-alike-cases (Some b) at = alike (where_built name rule) (refl, h (found-passes is_told_name t.blocks name b told-names at))
 

@@ -31,7 +31,7 @@ use Rattle.graph_formulas.specs.Parts.{holds_rule, asked_rule, suits_rule, row_r
 use Rattle.graph_formulas.specs.Terms.{Term, known, met, term_said, known_rule, met_rule, built_rule}
 use Rattle.graph_formulas.specs.Directives.{answer_rule, root_rule, edge_to, edge_rule, suits_asked, constraint_rule, conflict_rule, choice_rule, requirement_rule}
 use Rattle.graph_rules.specs.Built.{names_virtual}
-use Rattle.graph_formulas.specs.Edges.{empty_kinds, asked_child, asks_rule, may_ask, kind_rule, virtual_rule, extra_edge_rule, extra_edges_rule, use_rule, used_rule, of_provider}
+use Rattle.graph_formulas.specs.Edges.{no_kinds, asked_child, asks_rule, may_ask, kind_rule, virtual_rule, extra_edge_rule, extra_edges_rule, use_rule, used_rule, of_provider}
 use Rattle.graph_formulas.specs.Together.{no_other_rule, by_row_rule, together_rule}
 use Rattle.graph_formulas.specs.Variants.{count_rule, definitions, variant_rule, variants_rule, allows_rule}
 use Rattle.graph_formulas.specs.Demands.{directive_rule, required_rule}
@@ -275,11 +275,11 @@ module _ (problem : Problem) (v : ℕ → Bool) (t : Table) (path other : PathFo
         (λ child. (
           (
             (
-              kind-alike child (record empty_kinds { build = true }) (λ kinds. kinds.build),
-              kind-alike child (record empty_kinds { link = true })
+              kind-alike child (record no_kinds { build = true }) (λ kinds. kinds.build),
+              kind-alike child (record no_kinds { link = true })
                   (λ kinds. kinds.link),
             ),
-            kind-alike child (record empty_kinds { run = true }) (λ kinds. kinds.run),
+            kind-alike child (record no_kinds { run = true }) (λ kinds. kinds.run),
           ),
           each-all TermAlike (virtual_rule problem packages name child) (virtual-alike child) (virtuals child),
         )) children

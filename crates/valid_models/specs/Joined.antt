@@ -15,7 +15,7 @@ use Rattle.condition_rules.specs.Words.{is_one_text}
 use Rattle.graph_formulas.specs.Facts.{GraphWord, word_said}
 use Rattle.graph_formulas.specs.Parts.{condition_rule}
 use Rattle.graph_formulas.specs.Words.{names_for, rule_said}
-use Rattle.graph_formulas.specs.Terms.{Term, builds_node, known_rule, where_built, where_there}
+use Rattle.graph_formulas.specs.Terms.{Term, builds, known_rule, where_built, where_there}
 use Rattle.graph_formulas.specs.Built.{buildable_rule, version_rule, compiler_rule, machine_rule, provider_rule}
 use Rattle.graph_formulas.specs.Edges.{extra_edges_rule, used_rule, of_provider}
 use Rattle.graph_formulas.specs.Together.{together_rule}
@@ -86,7 +86,7 @@ holds_at problem listed k g = condition_holds problem (slice_get listed k) g
 
 -- the table has each variant that a recipe defines, where it offers to build the name
 abbrev pub HasBuiltVariants : Problem → Table → Type 0
-HasBuiltVariants problem t = (name : Text) (b : Block) → block_of t name ≡ Some b → list_any builds_node (choice_values b.origins) ≡ true
+HasBuiltVariants problem t = (name : Text) (b : Block) → block_of t name ≡ Some b → list_any builds (choice_values b.origins) ≡ true
     → list_all (is_one_text (variants_of t name)) (map (λ row. row.name) (variants_at problem name)) ≡ true
 
 -- the formula of each word is over the variables of the table and of paths

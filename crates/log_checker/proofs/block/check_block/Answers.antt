@@ -22,9 +22,9 @@ returns-clause-ok g c =
     let count : c.count_checked-count.result ≡ t.count + one_more c.in_ok-plain.plain = c.count_checked-count.ensures
     ∙ ap (λ n. n + one_more c.in_ok-plain.plain) (omega (arith, t.lines, c.lines-before.ensures.value, c.lines.ensures.value)) in
     let bad : c.in_ok-bad.bad ≡ first_bad p.bits p.known (s.lines + 1) (take (t.count + one_more c.in_ok-plain.plain) c.args.lines.now) =
-    c.in_ok-bad.ensures ∙ ap (λ bs. first_bad bs c.known.result.now (c.lines-before.result + 1)
+    c.in_ok-bad.ensures ∙ ap (λ bs. first_bad bs c.known-2.result.now (c.lines-before.result + 1)
     (take c.count_checked-count.result c.args.lines.now)) c.bits.ensures
-    ∙ ap (λ ks. first_bad p.bits ks (c.lines-before.result + 1) (take c.count_checked-count.result c.args.lines.now)) c.known.ensures
+    ∙ ap (λ ks. first_bad p.bits ks (c.lines-before.result + 1) (take c.count_checked-count.result c.args.lines.now)) c.known-2.ensures
     ∙ ap (λ n. first_bad p.bits p.known (n + 1) (take c.count_checked-count.result c.args.lines.now)) c.lines-before.ensures.value
     ∙ ap (λ n. first_bad p.bits p.known (s.lines + 1) (take n c.args.lines.now)) count in
     ap (progress_of p) (c.verdict.ensures ∙ ap (λ n. verdict n c.in_ok-plain.plain c.in_ok-bad.bad) c.lines-2.ensures.value

@@ -1,9 +1,5 @@
 use Prim.Native.Nat.{suc}
-use Rattle.std.proofs.Common.{◌≡◌, ◌-◌, ◌<◌, ◌≤◌, ◌∙◌, true, false, Some, length, get_or, sym, ap, refl, arith}
-use Rattle.std.specs.Prelude.{slice_get}
-use Rattle.std.proofs.lemmas.Option.{slice_get-get_or}
-use Rattle.log_checker.specs.declared.known.Known.{Known}
-use Rattle.log_checker.specs.Steps.{same_lits}
+use Rattle.std.proofs.Common.{◌≡◌, ◌-◌, ◌≤◌, ◌∙◌, true, false, length, get_or, sym, refl, arith}
 use Rattle.log_checker.specs.Links.{bucket_of}
 use Rattle.log_checker.proofs.Links.{seeks-first, seeks-before, seeks-next, seeks-found, seeks-none}
 use Rattle.log_checker.proofs.index.find_rival.Goals as goal
@@ -16,13 +12,8 @@ loop-next-init c =
 pub returns-then-are_same : goal.returns-then-are_same
 returns-then-are_same c =
     let next : c.loop-next.next ≡ suc (c.loop-next.next - 1) = omega (arith, c.loop-next-test.true) in
-    let within : c.loop-next.next - 1 < length c.args.known.now = omega (arith, c.loop-next-test.true, c.loop-next.invariant.0) in
-    let here : slice_get c.args.known.now (c.loop-next.next - 1) ≡ Some c.index-known-place.result =
-    slice_get-get_or c.args.known.now (c.loop-next.next - 1) c.index-known-place.result within ∙ ap Some (sym c.index-known-place.is) in
     sym (seeks-found (bucket_of c.args.factor (length c.args.heads.now)) c.args.known.now c.args.lits.now c.loop-next.next (c.loop-next.next - 1)
-    c.index-known-place.result c.loop-next.invariant next here
-    (ap (λ (k : Known). same_lits k.clause c.args.lits.now) c.index-known-place.is
-    ∙ ap (λ x. same_lits x c.args.lits.now) (sym c.lits.ensures.value) ∙ sym c.are_same.ensures ∙ c.if-are_same.true))
+    _ c.loop-next.invariant next c.get-other.ensures.value (sym c.are_same.ensures ∙ c.if-are_same.true))
 
 pub loop-next-smaller : goal.loop-next-smaller
 loop-next-smaller c =
@@ -35,14 +26,9 @@ loop-next-smaller c =
 pub loop-next-preserved : goal.loop-next-preserved
 loop-next-preserved c =
     let next : c.loop-next.next ≡ suc (c.loop-next.next - 1) = omega (arith, c.loop-next-test.true) in
-    let within : c.loop-next.next - 1 < length c.args.known.now = omega (arith, c.loop-next-test.true, c.loop-next.invariant.0) in
-    let here : slice_get c.args.known.now (c.loop-next.next - 1) ≡ Some c.index-known-place.result =
-    slice_get-get_or c.args.known.now (c.loop-next.next - 1) c.index-known-place.result within ∙ ap Some (sym c.index-known-place.is) in
     seeks-next (bucket_of c.args.factor (length c.args.heads.now)) c.args.heads.now c.args.links.now c.args.known.now c.args.lits.now
-    c.loop-next.next (c.loop-next.next - 1) (get_or c.args.links.now (c.loop-next.next - 1) 0) c.index-known-place.result
-    c.requires.linked c.loop-next.invariant next here
-    (ap (λ (k : Known). same_lits k.clause c.args.lits.now) c.index-known-place.is
-    ∙ ap (λ x. same_lits x c.args.lits.now) (sym c.lits.ensures.value) ∙ sym c.are_same.ensures ∙ c.if-are_same.false) refl
+    c.loop-next.next (c.loop-next.next - 1) (get_or c.args.links.now (c.loop-next.next - 1) 0) _
+    c.requires.linked c.loop-next.invariant next c.get-other.ensures.value (sym c.are_same.ensures ∙ c.if-are_same.false) refl
 
 pub returns : goal.returns
 returns c = sym (seeks-none (bucket_of c.args.factor (length c.args.heads.now)) c.args.known.now c.args.lits.now c.loop-next.next

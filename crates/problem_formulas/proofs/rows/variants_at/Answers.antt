@@ -2,7 +2,7 @@ use Rattle.std.proofs.Common.{ap, ◌∙◌}
 use Rattle.clause_formulas.specs.Statements.{implication_of}
 use Rattle.graph_core.specs.Graphs.{Text}
 use Rattle.graph_formulas.specs.Facts.{has_origin}
-use Rattle.graph_formulas.specs.Terms.{builds_node}
+use Rattle.graph_formulas.specs.Terms.{builds}
 use Rattle.rule_formulas.specs.OfWordFormulas.Builders.{node_said}
 use Rattle.rule_formulas.proofs.OfWordFormulas.Steps.{ok-same, ok-is, implies-same}
 use Rattle.rule_formulas.specs.Terms.{plain_term}
@@ -17,7 +17,7 @@ returns g c =
     let condition = g.C.MetConditions.condition_of c.args.conditions.now in
     let name = c.args.name.now in
     let said = λ (n : Text). plain_term table condition (variants_rule problem (variants_of table n) n) in
-    let built = λ (n : Text). node_said table n (has_origin builds_node) in
+    let built = λ (n : Text). node_said table n (has_origin builds) in
     let rule = ok-is c.variants_formula.result c.in_ok-rule.rule (said c.as_str.result.now) c.in_ok-rule.was c.variants_formula.ensures
     ∙ ap said c.as_str.ensures in
     ok-same c.where_built.result (implication_of (built c.as_str-2.result.now) c.in_ok-rule.rule) (implication_of (built name) (said name))

@@ -3,7 +3,7 @@ use Rattle.clause_formulas.specs.Statements.{both_statements}
 use Rattle.clause_formulas.specs.Rules.{Proposition}
 use Rattle.graph_formulas.specs.Words.{names_for}
 use Rattle.graph_formulas.specs.Terms.{Term}
-use Rattle.graph_formulas.specs.Edges.{empty_kinds, kind_rule, virtual_rule, extra_edge_rule}
+use Rattle.graph_formulas.specs.Edges.{no_kinds, kind_rule, virtual_rule, extra_edge_rule}
 use Rattle.graph_formulas.specs.Laws.{virtuals_on}
 use Rattle.graph_formulas.specs.Lists.{each_keeps}
 use Rattle.word_formulas.proofs.Steps.{ok-same, ok-is, both-same}
@@ -19,13 +19,13 @@ returns g c =
     let child = c.args.child.now in
     let said = λ (rule : Proposition Term). plain_term table condition rule in
     let build = ok-is c.kind_formula.result c.in_ok-build.build
-    (said (kind_rule problem (names_for table) (record empty_kinds { build = true }) (λ kinds. kinds.build) name child))
+    (said (kind_rule problem (names_for table) (record no_kinds { build = true }) (λ kinds. kinds.build) name child))
     c.in_ok-build.was c.kind_formula.ensures in
     let link = ok-is c.kind_formula-2.result c.in_ok-link.link
-    (said (kind_rule problem (names_for table) (record empty_kinds { link = true }) (λ kinds. kinds.link) name child)) c.in_ok-link.was
+    (said (kind_rule problem (names_for table) (record no_kinds { link = true }) (λ kinds. kinds.link) name child)) c.in_ok-link.was
     c.kind_formula-2.ensures in
     let run = ok-is c.kind_formula-3.result c.in_ok-run.run'
-    (said (kind_rule problem (names_for table) (record empty_kinds { run = true }) (λ kinds. kinds.run) name child)) c.in_ok-run.was
+    (said (kind_rule problem (names_for table) (record no_kinds { run = true }) (λ kinds. kinds.run) name child)) c.in_ok-run.was
     c.kind_formula-3.ensures in
     let most = c.in_ok-most.ensures ∙ both-same _ _ _ _ build link in
     let kinds = c.in_ok-kinds.ensures ∙ both-same _ _ _ _ most run in

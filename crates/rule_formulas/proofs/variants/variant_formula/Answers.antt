@@ -1,7 +1,7 @@
-use Rattle.std.proofs.Common.{◌≡◌, ap, ◌∙◌, ◌/◌, map, filter, length}
+use Rattle.std.proofs.Common.{◌≡◌, sym, ap, ◌∙◌, ◌/◌, map, length}
 use Rattle.std.specs.Borrow.{Bor}
-use Rattle.std.specs.Str.{bytes_eq}
 use Rattle.clause_formulas.specs.Statements.{both_statements}
+use Rattle.graph_core.specs.Graphs.{Text}
 use Rattle.word_formulas.specs.Builders.{node_said}
 use Rattle.word_formulas.proofs.Steps.{ok-same, ok-is, both-same, implies-same}
 use Rattle.rule_formulas.specs.Terms.{plain_term}
@@ -16,15 +16,15 @@ pub returns : goal.returns
 returns g c =
     let condition = g.C.MetConditions.condition_of c.args.conditions.now in
     let table = c.args.table.now in
-    let problem = c.args.problem.now in
-    let name = c.args.name.now in
+    let problem = c.args.definitions.now.0 in
+    let name = c.name-name.result.now in
     let variant = c.args.variant.now in
     let there_said = node_said table name (has_variant variant) in
     let rows = c.as_slice-rows.result.now in
     let ds = definitions problem name variant in
     let own = λ (row : Bor VariantRow). row.now in
     let same : map own rows ≡ ds = ap (map own) c.as_slice-rows.ensures.value ∙ c.in_ok-found.ensures
-    ∙ ap (filter (λ (row : VariantRow). bytes_eq row.name variant)) c.variants_at.ensures in
+    ∙ ap (λ (n : Text). definitions problem n variant) (sym c.name-name.ensures) in
     let met = ok-is c.met_formula.result c.in_ok-met.met (met_said condition name rows) c.in_ok-met.was c.met_formula.ensures
     ∙ met-is table condition name variant rows ds same in
     let there = ok-is c.has_variant.result c.in_ok-there.there there_said c.in_ok-there.was c.has_variant.ensures in
@@ -34,6 +34,8 @@ returns g c =
     c.in_ok-last.was c.last_formula.ensures
     ∙ last-is table condition name variant rows ds same in
     let where_there = c.in_ok-where_there.ensures ∙ implies-same _ _ _ _ again last in
+    let both : both_statements c.in_ok-where_met.where_met c.in_ok-where_there.where_there
+    ≡ plain_term table condition (variant_rule problem name variant) = both-same _ _ _ _ where_met where_there in
     ok-same c.both.result (both_statements c.in_ok-where_met.where_met c.in_ok-where_there.where_there)
-    (plain_term table condition (variant_rule problem name variant))
-    (both-same _ _ _ _ where_met where_there) c.both.ensures
+    (plain_term table condition (variant_rule problem c.args.definitions.now.1 variant))
+    (both ∙ ap (λ (n : Text). plain_term table condition (variant_rule problem n variant)) c.name-name.ensures) c.both.ensures

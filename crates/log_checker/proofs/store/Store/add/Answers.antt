@@ -6,7 +6,7 @@ use Rattle.log_checker.proofs.store.Store.add.Goals as goal
 pub invariant_of-self-2 : goal.invariant_of-self-2
 invariant_of-self-2 c = (
   c.self.invariant.0,
-  subst (AreIndexed c.self.inside.factor c.self.inside.heads.items c.self.inside.links.items) (sym c.in_ok-push.ensures.items) (
-      indexed-push c.self.inside.factor c.self.inside.heads.items c.self.inside.links.items c.self.inside.known.items c.args.known
-      c.self.invariant.1),
+  subst (AreIndexed c.self.inside.factor c.self.inside.heads.items c.self.inside.links.items) (sym c.in_ok-push.ensures.ok) (
+      indexed-push c.self.inside.factor c.self.inside.heads.items c.self.inside.links.items c.self.inside.known
+      (record { clause = c.args.lits.now; by_bit = c.args.by_bit }) c.self.invariant.1),
 )

@@ -1,5 +1,4 @@
-use Rattle.std.proofs.Common.{◌≡◌, ◌≤◌, ◌∙◌, length, ap, subst, arith}
-use Rattle.log_checker.specs.Links.{AreIndexed}
+use Rattle.std.proofs.Common.{◌≡◌, ◌≤◌, length, ap, arith, refl}
 use Rattle.log_checker.proofs.Links.{indexed-written, linked-written}
 use Rattle.log_checker.proofs.store.Store.has_rival.Goals as goal
 
@@ -8,26 +7,22 @@ invariant_of-self c =
     let s = c.self.inside in
     let heads : length c.note_rest.new.heads ≡ length s.heads.items = omega (arith, ap length c.deref_mut.ensures.value) in
     let within : length s.heads.items ≤ s.heads.len = omega (arith, ap length c.deref_mut.ensures.value, c.deref_mut.ensures.len) in
-    indexed-written s.factor s.heads.len c.note_rest.new.heads s.heads.items c.note_rest.new.links.items s.known.items heads within
-    c.self.invariant.0
-    (subst (AreIndexed s.factor c.note_rest.new.heads c.note_rest.new.links.items) c.as_slice.ensures.value c.note_rest.ensures.after)
+    indexed-written s.factor s.heads.len c.note_rest.new.heads s.heads.items c.note_rest.new.links.items s.known heads within
+    c.self.invariant.0 c.note_rest.ensures.after
 
 pub find_rival-found-requires-clause-linked : goal.find_rival-found-requires-clause-linked
 find_rival-found-requires-clause-linked c =
     let s = c.self.inside in
     let heads : length c.note_rest.new.heads ≡ length s.heads.items = omega (arith, ap length c.deref_mut.ensures.value) in
     let within : length s.heads.items ≤ s.heads.len = omega (arith, ap length c.deref_mut.ensures.value, c.deref_mut.ensures.len) in
-    linked-written s.factor s.heads.len c.note_rest.new.heads s.heads.items c.note_rest.new.links.items c.as_slice-2.result.now
-    c.as_slice-3.result.now s.known.items c.as_slice-4.result.now heads within c.as_slice-2.ensures.value c.as_slice-3.ensures.value
-    c.as_slice-4.ensures.value
-    (subst (AreIndexed s.factor c.note_rest.new.heads c.note_rest.new.links.items) c.as_slice.ensures.value c.note_rest.ensures.after)
-    (c.in_ok-note_rest.ensures.all ∙ ap length c.as_slice.ensures.value)
+    linked-written s.factor s.heads.len c.note_rest.new.heads s.heads.items c.note_rest.new.links.items c.as_slice.result.now
+    c.as_slice-2.result.now s.known s.known heads within c.as_slice.ensures.value c.as_slice-2.ensures.value refl
+    c.note_rest.ensures.after c.in_ok-note_rest.ensures.all
 
 pub invariant_of-self-2 : goal.invariant_of-self-2
 invariant_of-self-2 c =
     let s = c.self.inside in
     let heads : length c.note_rest.new.heads ≡ length s.heads.items = omega (arith, ap length c.deref_mut.ensures.value) in
     let within : length s.heads.items ≤ s.heads.len = omega (arith, ap length c.deref_mut.ensures.value, c.deref_mut.ensures.len) in
-    indexed-written s.factor s.heads.len c.note_rest.new.heads s.heads.items c.note_rest.new.links.items s.known.items heads within
-    c.self.invariant.0
-    (subst (AreIndexed s.factor c.note_rest.new.heads c.note_rest.new.links.items) c.as_slice.ensures.value c.note_rest.ensures.after)
+    indexed-written s.factor s.heads.len c.note_rest.new.heads s.heads.items c.note_rest.new.links.items s.known heads within
+    c.self.invariant.0 c.note_rest.ensures.after

@@ -1,0 +1,4 @@
+pub mod Fewer
+pub mod Sorts
+pub mod Listed
+pub mod Numbers

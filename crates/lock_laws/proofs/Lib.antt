@@ -1,0 +1,9 @@
+pub mod Each
+pub mod Sets
+pub mod Recipes
+pub mod BuiltNodes
+pub mod Externals
+pub mod Records
+pub mod Children
+pub mod Edges
+pub mod Whole

@@ -1,0 +1,11 @@
+use Rattle.std.proofs.lemmas.Result.{IfOk-at_ok}
+use Rattle.root_groups.specs.Solved.{AreFound, IsFoundFor}
+use Rattle.root_groups.proofs.Laws.{zip_halves}
+use Rattle.root_groups.proofs.solved.solve_each.Goals as goal
+
+pub returns : goal.returns
+returns g c =
+    zip_halves (IsFoundFor c.args.budget) c.args.parts.now c.split_at.result.0.now c.split_at.result.1.now c.in_ok-one.one.items
+    c.in_ok-other.other.items _ _ c.in_ok-all.ensures c.split_at.ensures.front c.split_at.ensures.back
+    (IfOk-at_ok (λ v. AreFound c.args.budget c.split_at.result.0.now v.items) c.in_ok-one.was c.join-one.ensures.first)
+    (IfOk-at_ok (λ v. AreFound c.args.budget c.split_at.result.1.now v.items) c.in_ok-other.was c.join-one.ensures.second)

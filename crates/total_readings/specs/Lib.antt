@@ -1,0 +1,1 @@
+-- no definitions: the laws are said in the words of the readers
