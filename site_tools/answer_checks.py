@@ -150,6 +150,8 @@ def json_runs() -> list[tuple[list[str], dict[str, Any]]]:
         (["reasons", *mpi, "hdf5@1.14: ~shared"], {"status": 1, "answer": "Unsatisfiable"}),
         (["trial", "20", "1"], {"status": 0, "learnt": 0}),
         (["trial", "0", "1"], {"status": 2, "answer": "Usage"}),
+        (["--version"], {"status": 0, "answer": "Done"}),
+        (["--help", "trial"], {"status": 2, "answer": "Usage"}),
         ([], {"status": 2, "answer": "Usage"}),
     ]
 

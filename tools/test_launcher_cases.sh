@@ -213,6 +213,7 @@ cases_of_installing() {
   check "and its version" sh -c '"$1/bin/spack_concretize" --version | grep -q "installed, of the sources [0-9a-f]\{64\}"' - "$prefix"
   check "its man page" test -s "$prefix/share/man/man1/spack_concretize.1"
   check "its completion" sh -c 'bash -c "source \"\$0\" && complete -p spack_concretize" "$1" >/dev/null' - "$prefix/share/bash-completion/completions/spack_concretize"
+  check "the programs of site_tools for a site" test "$(ls "$prefix/bin" | wc -l)" -ge 13
   for view in "$prefix"/bin/spack_concretize-*; do
     check "and ${view##*/}" sh -c '"$1" --help | grep -q "^usage"' - "$view"
   done

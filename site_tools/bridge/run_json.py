@@ -3,6 +3,7 @@
 The launcher calls it for `--json`. The exit status is the program's, and so are the files that are written.
 """
 import ctypes
+import hashlib
 import json
 import signal
 import subprocess
@@ -18,6 +19,7 @@ from .fault_files import words_of
 from .fault_lines import read as read_fault
 
 PARENT_DEATH = 1  # PR_SET_PDEATHSIG of Linux's prctl
+OWN_WORDS = (["--help"], ["--version"])  # which the program answers by a text of its own
 
 
 def die_with_parent() -> None:
@@ -58,12 +60,20 @@ def fault_data(err: str, words: list[str], wrong: str) -> Optional[dict[str, Any
     return {**found, "sentences": [each.strip() for each in sentences]} if sentences else found
 
 
+def sum_of(program: str) -> dict[str, str]:
+    """The SHA-256 of the file that ran, where that can be read: a release has it beside the file."""
+    try:
+        return {"sha256": hashlib.sha256(Path(program).read_bytes()).hexdigest()}
+    except OSError:
+        return {}
+
+
 def answer(program: str, wrong: str, words: list[str]) -> dict[str, Any]:
     """The whole object of a run."""
     status, out, err = run([program, *words])
     found: dict[str, Any] = {"version": 1, "program": program, "words": words, "status": status}
-    found["answer"] = answers.NAMES.get(status, "Ended")
-    found.update(answers.data(out))
+    found.update({"answer": answers.NAMES.get(status, "Ended"), **sum_of(program)})
+    found.update({"text": out} if words in OWN_WORDS and status == 0 else answers.data(out))
     if err:
         found["line"] = err.removesuffix("\n")
         fault = fault_data(err, words, wrong)

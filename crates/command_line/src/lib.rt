@@ -1,24 +1,33 @@
 //! The whole program, over a runtime: the top call over the files and the streams of the machine.
 //!
-//! What it is: `run_machine`, which takes the words behind the program's name and ends with an exit status.
-//! What it promises: that status is the number of `run`'s answer (`ended`).
+//! What it is: `run_machine`, which takes the words behind the program's name and ends with an exit status; below it `answer_words`,
+//! which does so over any devices.
+//! What it promises: that status is the number of `run`'s answer, and all that `run` promises of that answer holds (`answer_words`). The
+//! word `--help` and the word `--version`, alone, are answered here (`own_text`).
 //! What it stands on: `concretizer`, and the machine's devices of `outside_desk`.
-//! What it must not know: what the words mean.
-//! It stands apart from `main` so that more than one stored run goes through it.
+//! What it must not know: what the words of a command mean.
+//! It stands apart from `main` so that its tests run it too.
 #![tactic(auto)]
 
+mod ending;
+#[cfg(test)]
+mod machine_runs;
 mod one_file;
+mod own_words;
 mod stage_file;
 
 ghost use Rattle.std.specs.Prelude.{◌≡◌};
+ghost use Rattle.std.specs.IoError.{error_kind};
 ghost use Rattle.std.specs.Process.{exit_status};
-ghost use Rattle.concretizer.specs.Exits.{number_of};
+ghost use Rattle.command_line.specs.Ends.{number_without_words};
 
+use crate::ending::{ended, report};
 use crate::one_file::one_file;
 use crate::stage_file::StageFile;
-use concretizer::{Log, Status, run};
-use outside_desk::{RealDesk, RealSink, Sink, SinkFault};
-use std::alloc::Global;
+use concretizer::{Log, Status};
+pub use ending::{answer_words, number_laws};
+use outside_desk::{RealDesk, RealSink};
+pub use own_words::own_text;
 use std::env;
 use std::env::Env;
 use std::io::{Error, ErrorKind, Write};
@@ -29,27 +38,13 @@ use std::thread::Threads;
 /// The exit status where the system refuses the words for another cause than memory.
 const NO_WORDS: u8 = 10;
 
-/// The exit status of an answer.
-fn ended(status: Status) -> ExitCode
-    ensures { exit_status result ≡ number_of status }
-{
-    ExitCode::from(status.number())
-}
-
 /// The exit status where the system refuses the words.
-fn refused(error: &Error) -> ExitCode {
+fn refused(error: &Error) -> ExitCode
+    ensures { exit_status result ≡ number_without_words (error_kind error.now) }
+{
     match error.kind() {
         ErrorKind::OutOfMemory => ended(Status::NoMemory),
         _ => ExitCode::from(NO_WORDS),
-    }
-}
-
-/// Says that two files of a command are one, and answers so.
-fn refuse<E: Sink>(alloc: Global, err: &mut E, line: &str) -> Status {
-    match err.say(alloc, line.as_bytes()) {
-        Ok(()) => Status::Usage,
-        Err(SinkFault::Failed) => Status::WriteFault,
-        Err(SinkFault::OutOfMemory) => Status::NoMemory,
     }
 }
 
@@ -75,24 +70,34 @@ pub fn run_machine<R: Env + Files + AllocGlobal + Threads + Sync, O: Write + Dro
         },
         Err(error) => return refused(&error),
     };
+    run_on_machine(rt, &words, out, err)
+}
+
+/// The same for words that the caller has. The word `--help` or `--version` alone is answered by a text on `out`, and no file is looked at.
+pub fn run_on_machine<
+    R: Env + Files + AllocGlobal + Threads + Sync,
+    O: Write + Drop,
+    E: Write + Drop,
+>(rt: &R, words: &[String], out: O, err: E) -> ExitCode {
+    let alloc = rt.alloc();
     let mut err = RealSink::new(err);
-    match one_file(alloc, rt, &words) {
+    match one_file(alloc, rt, words) {
         Ok(None) => {}
-        Ok(Some(line)) => return ended(refuse(alloc, &mut err, line.as_str())),
+        Ok(Some(line)) => return ended(report(alloc, &mut err, line.as_str(), Status::Usage)),
         Err(_) => return ended(Status::NoMemory),
     }
     let mut desk = RealDesk::new(rt);
     let mut out = RealSink::new(out);
     let mut kept = Log::new(alloc);
     let mut progress = StageFile::new(rt);
-    ended(run(
+    answer_words(
         rt,
         alloc,
-        &words,
+        words,
         &mut desk,
         &mut out,
         &mut err,
         &mut kept,
         &mut progress,
-    ))
+    )
 }
