@@ -1,0 +1,5 @@
+pub mod Marking
+pub mod Trimming
+pub mod Rooms
+pub mod KindLaws
+pub mod FoundLaws
