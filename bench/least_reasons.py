@@ -2,7 +2,7 @@
 """Checks on files of cases (`bench/concretize/README.md`) that each list of `reasons` is least, by the answers to other problems:
 nothing of how it was found, and no graph that it prints, is believed.
 
-    bench/least_reasons.py [--program PROGRAM] [--judge PROGRAM] [--skip COUNT] FILE..
+    bench/least_reasons.py [--program PROGRAM] [--judge PROGRAM] [--skip COUNT] [--count COUNT] [--seconds SECONDS] FILE..
 
 For each list the recipes, the settings and the request are edited until they ask for its demands alone: a `conflicts`, a `requires`, an
 entry of `require` and a root that the list does not name are taken out, and a `depends_on` may be left off and is without its
@@ -11,7 +11,7 @@ constraints. Then `concretize` of JUDGE has to say that there is no graph; and w
 A list without its only root is met by the empty graph. A root that the list does not name is asked for by its package alone where the
 package is among the nodes: by the rules it may be there, and need not.
 
-It prints each list that differs, then how many there were and how long, and how much more processor time `reasons` took than
+It prints each list that differs, and each that JUDGE did not answer for within SECONDS of the processor a run, then how many there were and how long, and how much more processor time `reasons` took than
 `explain` (the median and the worst), and the most memory. It ends with 1 where one differs. JUDGE may be an older program than PROGRAM, so that none of
 its code is believed either.
 """
@@ -21,6 +21,8 @@ import json
 import os
 import pathlib
 import re
+import resource
+import signal
 import statistics
 import sys
 import tempfile
@@ -40,9 +42,9 @@ DONE, UNSATISFIABLE = 0, 1
 class Run:
     """A run: its status, what it said, the seconds of the processor and the most memory in MiB."""
 
-    def __init__(self, words, folder):
+    def __init__(self, words, folder, seconds=None):
         out, err = [tempfile.TemporaryFile() for _ in range(2)]
-        child = self.spawn(words, folder, out, err)
+        child = self.spawn(words, folder, out, err, seconds)
         _, status, used = os.wait4(child, 0)
         self.status = os.waitstatus_to_exitcode(status)
         self.seconds, self.memory = used.ru_utime + used.ru_stime, used.ru_maxrss / 1024
@@ -51,11 +53,13 @@ class Run:
         self.out, self.err = out.read().decode(), err.read().decode()
 
     @staticmethod
-    def spawn(words, folder, out, err):
+    def spawn(words, folder, out, err, seconds):
         child = os.fork()
         if child == 0:
             try:
                 os.chdir(folder)
+                if seconds:
+                    resource.setrlimit(resource.RLIMIT_CPU, (seconds, seconds + 1))
                 os.dup2(out.fileno(), 1)
                 os.dup2(err.fileno(), 2)
                 os.execv(words[0], words)
@@ -159,11 +163,15 @@ def spec_texts(text):
     return [spec_parts.text_of(spec) for spec in spec_parts.parts(text)]
 
 
+class OutOfTime(Exception):
+    """The other program did not answer in time."""
+
+
 class Judge:
     """Asks another program about edited problems."""
 
-    def __init__(self, program, case):
-        self.program, self.case = program, case
+    def __init__(self, program, case, seconds):
+        self.program, self.case, self.seconds = program, case, seconds
 
     def ask(self, demands, nodes=None, there=()):
         """Whether there is a graph for these demands alone that has these packages besides; a graph has to be called valid. What the program
@@ -174,7 +182,9 @@ class Judge:
                 return True
             _, repo, settings, database, *_ = self.case["words"]
             words = [repo, settings, database, "judged.lock"]
-            found = Run([self.program, "concretize", *words, "-", *roots], folder)
+            found = Run([self.program, "concretize", *words, "-", *roots], folder, self.seconds)
+            if found.status in (-signal.SIGXCPU, -signal.SIGKILL):
+                raise OutOfTime
             if found.status not in (DONE, UNSATISFIABLE):
                 return found.err.strip() or f"status {found.status}"
             if found.status == DONE:
@@ -210,6 +220,8 @@ def main():
     parser.add_argument("--program", default=os.path.join(TOP, "release", "spack_concretize-x86_64-linux"))
     parser.add_argument("--judge", help="PROGRAM where it is not given")
     parser.add_argument("--skip", type=int, default=0)
+    parser.add_argument("--count", type=int)
+    parser.add_argument("--seconds", type=int, help="of the processor, for a run of JUDGE")
     parser.add_argument("--no-check", action="store_true", help="times alone")
     parser.add_argument("file", nargs="+")
     options = parser.parse_args()
@@ -219,7 +231,7 @@ def main():
     ratios, lengths, worst, memory, begun = [], [], (0.0, ""), 0.0, time.monotonic()
     for file in options.file:
         for number, case in enumerate(cases_of(file)):
-            if number < options.skip:
+            if number < options.skip or options.count is not None and number >= options.skip + options.count:
                 continue
             with tempfile.TemporaryDirectory() as folder:
                 unpack(case, folder)
@@ -240,8 +252,12 @@ def main():
                 lengths.append((len(found), len(first.out.splitlines())))
                 if len(found) > len(first.out.splitlines()):
                     count["longer than explain's"] += 1
-                if not options.no_check:
-                    faults += checked(Judge(judge_program, case), found)
+                try:
+                    if not options.no_check:
+                        faults += checked(Judge(judge_program, case, options.seconds), found)
+                except OutOfTime:
+                    count["not judged in time"] += 1
+                    print(f"{file} {number} {case['name']}: not judged in time, {len(found)} demands", flush=True)
             for fault in faults:
                 print(f"{file} {number} {case['name']}: {fault}", flush=True)
             wrong += bool(faults)

@@ -27,9 +27,10 @@ sys.dont_write_bytecode = True
 
 import answer_checks  # noqa: E402
 import log_checks  # noqa: E402
-from bridge import export_spec, import_repo, import_settings, installed, lock_view, manual, spec_text  # noqa: E402
+from bridge import export_spec, farm_view, import_repo, import_settings, installed, lock_view, manual, spec_text  # noqa: E402
 from bridge.literals import Evaluator, NotLiteral  # noqa: E402
 import again_cases  # noqa: E402
+import farm_checks  # noqa: E402
 import idioms  # noqa: E402
 import lock_cases  # noqa: E402
 import spack_style  # noqa: E402
@@ -192,8 +193,8 @@ def check_locks() -> Check:
 
 
 def check_views() -> Check:
-    """What lock_view and export_spec show of the lock files of the examples."""
-    for name, words in view_cases.views(TESTS, lock_view.main, export_spec.main).items():
+    """What lock_view and export_spec show of the lock files of the examples, and farm_view of folders of roots."""
+    for name, words in view_cases.views(TESTS, lock_view.main, export_spec.main, farm_view.main).items():
         yield from compared(f"views/{name}", run(*words).replace(f"{TOP}/", ""), TESTS / "views" / name)
 
 
@@ -259,6 +260,7 @@ def check_program() -> Check:
     yield from spack_style.refused(TESTS / "spack_style", run, program)
     yield from answer_checks.check_all()
     yield from log_checks.check_accepted()
+    yield from farm_checks.check_farm(program)
 
 
 def check_style() -> Check:

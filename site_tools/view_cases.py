@@ -1,4 +1,4 @@
-"""What is shown of lock files in the tests: the words of lock_view and export_spec, by the file that has to come of them."""
+"""What is shown of lock files in the tests: the words of lock_view, export_spec and farm_view, by the file that has to come of them."""
 from pathlib import Path
 from typing import Callable
 
@@ -6,7 +6,7 @@ TOP = Path(__file__).resolve().parent.parent
 SITE = TOP / "examples" / "site"
 
 
-def views(tests: Path, lock_view: Callable[..., int], export_spec: Callable[..., int]) -> dict[str, tuple]:
+def views(tests: Path, lock_view: Callable[..., int], export_spec: Callable[..., int], farm_view: Callable[..., int]) -> dict[str, tuple]:
     """Each view's name, and its words."""
     mpi, site = TOP / "examples" / "mpi", SITE / "hdf5.lock"
     broken = tests / "views" / "changed.lock"
@@ -26,6 +26,10 @@ def views(tests: Path, lock_view: Callable[..., int], export_spec: Callable[...,
         "older_named.txt": (lock_view, tests / "views" / "older_named.lock"),
         "site_pinned.txt": (export_spec, site, "--hashes", SITE / "hashes.tsv"),
         "mpi_environment.txt": (export_spec, mpi / "hdf5.lock", "--environment"),
+        "farm_best.txt": (farm_view, tests / "farms" / "best"),
+        "farm.txt": (farm_view, tests / "farms" / "every_status"),
+        "farm_unsaid.txt": (farm_view, tests / "farms" / "every_status", "--said", "/dev/null"),
+        "no_farm.txt": (farm_view, tests / "views"),
     }
     found.update({f"site_{each}.txt": (lock_view, site, "--format", each) for each in ("tree", "table", "json")})
     return found

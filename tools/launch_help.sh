@@ -24,6 +24,10 @@ spack_concretize find REPO SETTINGS DATABASE SPEC..
     says which installed packages meet the spec, which need not name one
 spack_concretize plan REPO SETTINGS DATABASE LOCK SPEC..
     says in which waves the packages of the lock file LOCK can be built
+spack_concretize each REPO SETTINGS DATABASE DIR SPEC..
+    finds the best graph of each root by itself, and puts DIR/N.lock and DIR/N.cert, N from 0 on
+spack_concretize check_each REPO SETTINGS DATABASE DIR SPEC..
+    says whether each DIR/N.lock is the best for its root, as DIR/N.cert shows
 spack_concretize trial N SEED
     finds the best graph of N packages (1 to 1,000) that are made from SEED
 
@@ -32,6 +36,7 @@ SETTINGS  a JSON file, or - for the standard settings      docs/formats/settings
 DATABASE  what is installed, or - for nothing              docs/formats/database.md
 LOCK      where the lock file is put; the others read it   docs/formats/lock-file.md
 CERT      the log of the search, or - for none             docs/CERTIFICATES.md
+DIR       a folder that is there, for files of each root   docs/FARMS.md
 SPEC      such as 'hdf5@1.14: +mpi ^mpich'                 docs/formats/specs.md
 
 0 done  1 unsatisfiable  2 usage  3 undecided  4 bad input  5 read fault  6 write fault  7 too large  8 refused

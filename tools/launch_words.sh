@@ -13,6 +13,8 @@ command_words=(
   'reasons REPO SETTINGS DATABASE SPEC'
   'find REPO SETTINGS DATABASE SPEC'
   'plan REPO SETTINGS DATABASE LOCK SPEC'
+  'each REPO SETTINGS DATABASE DIR SPEC'
+  'check_each REPO SETTINGS DATABASE DIR SPEC'
   'trial N SEED'
 )
 # What the launcher itself takes in place of a command.
@@ -136,6 +138,9 @@ wrong_word() {
     LOCK)
       lock=$text
       [ "$text" != - ] || wrong="LOCK, word $((at + 2)), is \`-\`: it names a file${command:+ for $command}"
+      ;;
+    DIR)
+      [ "$text" != - ] || wrong="DIR, word $((at + 2)), is \`-\`: it names the folder of the files of all roots"
       ;;
     CERT)
       if [ "$text" = - ] && [ "$command" != concretize ]; then

@@ -124,7 +124,7 @@ cases_of_words() {
   done
   call judge --help
   check "help about one command has no other" sh -c '! grep -q "^spack_concretize explain\|^CERT"' <<<"$out"
-  for command in fresh find plan; do
+  for command in fresh find plan each check_each; do
     call help $command
     check "help $command has its line" sh -c 'grep -q "^spack_concretize $1 REPO SETTINGS DATABASE .*SPEC"' - "$command" <<<"$out"
   done
@@ -135,6 +135,8 @@ cases_of_words() {
   check "and no other word of the caller's" sh -c '! grep -q "31m" "$1"' - "$work/err"
   call concretize r - - - - x
   check "where the program takes the words, nothing is said" test "$status:$(wc -c <"$work/err")" = 0:0
+  call help each
+  check "help each says what DIR is" grep -q '^DIR ' <<<"$out"
   call --json end 7
   check "--json says one object, and has the status" sh -c '[ "$1" = 7 ] && grep -q "^{.*\"status\": 7, .*}$"' - "$status" <<<"$out"
 }

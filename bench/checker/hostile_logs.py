@@ -1,13 +1,14 @@
 #!/usr/bin/env python3
 """Logs that were made to take their checker's time and memory: each family at n and 2n.
 
-    hostile_logs.py PROGRAM ENCODE [N]
+    hostile_logs.py PROGRAM ENCODE [N [FAMILY..]]
 
 The logs are over the rules' clauses of a problem of examples/mpi without a graph, as ENCODE (`encode_dimacs`) prints them. All their lines
 are right and none ends them, so PROGRAM (`spack_concretize refute`) goes through all of them and says Unfinished behind the last; each also
 with its last line damaged, which is refused there. A line for each log has its bytes, the processor's seconds and the memory; and the last
 one how the time grew where the log was twice as long. It ends with 1 where an answer was another one, or where the time grew more than
-2.5 times.
+2.5 times; of `turns` and `lines`, which are made so that b bytes have b to the power of 1.5 literals looked at, 3.3 times (2.8 and what a machine
+under load adds).
 
 N (20,000) is the number of ids or lines; the families:
 
@@ -29,6 +30,7 @@ import time
 TOP = os.path.dirname(os.path.dirname(os.path.dirname(os.path.abspath(__file__))))
 WORDS = [f"{TOP}/examples/mpi", f"{TOP}/examples/mpi/settings.json", "-"]
 SPEC = "hdf5@1.14: ~mpi ^mpich"
+STEEP = ("turns", "lines")
 FACTORS, WHOLE = (12160024628638980471, 16869996333008978667), 1 << 64
 
 
@@ -167,10 +169,11 @@ def refute(program, lines):
 def main():
     program, encode = sys.argv[1:3]
     size = int(sys.argv[3]) if len(sys.argv) > 3 else 20_000
+    names = sys.argv[4:] or list(FAMILIES)
     variables, clauses = rules(encode)
     wrong = 0
-    for name, make in FAMILIES.items():
-        times = []
+    for name in names:
+        make, times = FAMILIES[name], []
         for count in (size, 2 * size):
             log = Log(variables, clauses)
             make(log, count)
@@ -184,7 +187,7 @@ def main():
             times.append(max(seconds, 0.02))
             print(f"{name:11} {length:10} bytes {seconds:8.2f} s {memory:6} MB"
                   f"{'' if said == wanted else '  WRONG: ' + said}{'' if damaged == refused else '  WRONG: ' + damaged}", flush=True)
-        wrong += times[1] > 2.5 * times[0]
+        wrong += times[1] > (3.3 if name in STEEP else 2.5) * times[0]
         print(f"{name:11} twice as long: {times[1] / times[0]:.1f} times", flush=True)
     print(f"wrong {wrong}")
     return 1 if wrong else 0

@@ -24,7 +24,7 @@ def library(folder):
 
 
 def commands(problem):
-    """Each command with its words, as `concretize` has left LOCK and CERT at `lock` and `cert`, and a refutation at `log`."""
+    """Each command with its words: `concretize` has left LOCK and CERT at `lock` and `cert`, a refutation at `log`, and `each` its files in `roots`."""
     program, files, root = problem.program, problem.input, problem.root
     no_graph = "hdf5@1.14: ~mpi ^mpich"
     return {
@@ -39,6 +39,10 @@ def commands(problem):
         "explain, no graph": [program, "explain", *files, no_graph],
         "find": [program, "find", *files[:2], "d", "zlib"],
         "plan": [program, "plan", *files, "lock", root],
+        "reasons, no graph": [program, "reasons", *files, no_graph],
+        "each": [program, "each", *files, "out", root, "zlib"],
+        "each, no graph": [program, "each", *files, "out", "zlib", no_graph],
+        "check_each": [program, "check_each", *files, "roots", root, "zlib"],
         "trial": [program, "trial", "20", "1"],
         "a bad spec": [program, "explain", *files, "hdf5 ++mpi"],
     }
@@ -53,18 +57,26 @@ def places(drawn, count, most):
     return sorted(ends | set(drawn.sample(range(third + 1, count - third + 1), third)))
 
 
+def held_by(problem):
+    """The files that a run may put, and LOCK and CERT as they were, by their names."""
+    folder = os.path.join(problem.folder, "out")
+    return {name: read(os.path.join(folder, name)) for name in sorted(os.listdir(folder))}
+
+
 def fault_of(problem, done, right, files):
-    """What is wrong with a run of which an allocation was refused, or None."""
+    """What is wrong with a run of which an allocation was refused, or None; `files` are those that it leaves without that."""
     if done.fault():
         return done.fault()
     if done.status != NO_MEMORY and (done.status, done.out, done.said) != (right.status, right.out, right.said):
         return "another answer: status %d" % done.status
-    held = [read(problem.path(name)) for name in ("l", "c")]
-    if any(each not in (OLD, new) for each, new in zip(held, files)):
+    held = held_by(problem)
+    if set(held) - set(files):
+        return "a file stays beside"
+    if {"l", "c"} - set(held) or any(held[name] not in (OLD, files[name]) for name in held):
         return "lost"
     if done.status != NO_MEMORY and held != files:
-        return "the right answer, and LOCK or CERT is not there"
-    return "a file stays beside" if problem.beside() else None
+        return "the right answer, and not all files are there"
+    return None
 
 
 def allocations(program, options):
@@ -75,10 +87,12 @@ def allocations(program, options):
             write(os.path.join(folder, path), content)
         rows = commands(problem)
         run([*rows["concretize, no graph"][:6], "log", *rows["concretize, no graph"][7:]], folder)
+        os.mkdir(os.path.join(folder, "roots"))
+        run([*rows["each"][:5], "roots", *rows["each"][6:]], folder)
         for name, words in rows.items():
             problem.reset()
             right = run(["env", "LD_PRELOAD=" + preloaded, "REFUSED=0", "COUNTED=counted", *words], folder)
-            files = [read(problem.path(file)) for file in ("l", "c")]
+            files = held_by(problem)
             whole = int.from_bytes(read(os.path.join(folder, "counted")), sys.byteorder)
             for number in places(drawn, whole, options.allocations):
                 problem.reset()

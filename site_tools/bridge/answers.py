@@ -44,8 +44,36 @@ def node(line: str) -> Optional[dict[str, Any]]:
     return found
 
 
-def data(out: str) -> dict[str, Any]:
-    """What stands on standard output."""
+def costs(vector: list[int]) -> list[dict[str, Any]]:
+    """The numbers of a vector that are not 0, with their words."""
+    names = criteria.names()
+    return [{"number": place, "value": value, "words": names[place - 1]} for place, value in enumerate(vector, start=1) if value]
+
+
+def roots_said(out: str) -> list[dict[str, Any]]:
+    """What `each` says of each root: a line with its number and text, and one with its answer."""
+    found: list[dict[str, Any]] = []
+    root: Optional[dict[str, Any]] = None
+    for line in out.splitlines():
+        word, _, rest = line.partition(" ")
+        if word == "root":
+            number, _, text = rest.partition(" ")
+            root = {"number": int(number), "text": text}
+        elif root is not None and word in ("vector", "unsatisfiable", "undecided"):
+            if word == "vector":
+                vector = criteria.read(line)
+                root.update(answer="Done", vector=vector, costs=costs(vector))
+            else:
+                root.update({"answer": "Unsatisfiable"} if word == "unsatisfiable" else {"answer": "Undecided", "budget": int(rest)})
+            found.append(root)
+            root = None
+    return found
+
+
+def data(out: str, command: str = "") -> dict[str, Any]:
+    """What stands on standard output of a command."""
+    if command == "each":
+        return {"roots": roots_said(out)} if out else {}
     found: dict[str, Any] = {}
     lines = out.splitlines()
     nodes = [each for each in map(node, lines) if each]
@@ -55,11 +83,7 @@ def data(out: str) -> dict[str, Any]:
         word, _, rest = line.partition(" ")
         if word == "vector":
             found["vector"] = criteria.read(line)
-            names = criteria.names()
-            found["costs"] = [
-                {"number": place, "value": value, "words": names[place - 1]}
-                for place, value in enumerate(found["vector"], start=1) if value
-            ]
+            found["costs"] = costs(found["vector"])
         elif word in ("valid", "accepted", "satisfiable", "fresh", "stale") and not rest:
             found["said"] = word
         elif word == "wave":

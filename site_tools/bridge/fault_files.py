@@ -3,11 +3,11 @@
 Looks at the files as they stand now; where one was changed since, a place may lead elsewhere.
 """
 import re
-from dataclasses import dataclass, field
+from dataclasses import dataclass, field, replace
 from pathlib import Path
 from typing import Optional
 
-from . import json_places, spec_faults
+from . import json_places, spec_faults, spec_parts
 from .fault_lines import Fault
 from .recipe_rows import read
 from .shown import Place, place_at, shown
@@ -23,6 +23,8 @@ TAKES = {
     "reasons": ("repo", "settings", "database"),
     "find": ("repo", "settings", "database"),
     "plan": ("repo", "settings", "database", "lock"),
+    "each": ("repo", "settings", "database", "folder"),
+    "check_each": ("repo", "settings", "database", "folder"),
 }
 
 
@@ -36,6 +38,7 @@ class Words:
     database: str = ""
     lock: str = ""
     cert: str = ""
+    folder: str = ""
     specs: str = ""
 
 
@@ -48,6 +51,13 @@ def words_of(words: list[str]) -> Words:
     if names:
         found.specs = " ".join(words[1 + len(names) :])
     return found
+
+
+def words_of_root(words: Words, number: int) -> Words:
+    """The words as those of a run for one root alone, which has its files in the folder."""
+    specs = spec_parts.parts(words.specs)[number : number + 1]
+    lock, cert = (f"{words.folder}/{number}.{ending}" for ending in ("lock", "cert"))
+    return replace(words, lock=lock, cert=cert, specs=spec_parts.text_of(specs[0]) if specs else words.specs)
 
 
 @dataclass

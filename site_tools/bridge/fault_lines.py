@@ -11,18 +11,21 @@ ANSWERS = {2: "Usage", 4: "BadInput", 5: "ReadFault", 6: "WriteFault", 7: "TooLa
 LINE = re.compile(r"(usage|bad input|read fault|write fault|too large|refused): (.*)|(no memory)$", re.S)
 POINTERS = ("UnknownKey", "WrongKind", "Empty", "TwiceNamed", "BadExternal")
 INNER = re.compile(r"Spec (.*) (Expected|BadVersion|TwiceSet|Unsupported) ([0-9]+)(?: ([A-Za-z]+))?", re.S)
+ROOT = re.compile(r"root ([0-9]{1,6}): ")
 ABOUT = re.compile(r"(settings|database|specs|lock|names|certificate|recipe [A-Za-z0-9_-]+): (.*)", re.S)
 
 
 @dataclass(frozen=True)
 class Fault:
-    """A refusal: its status, the whole line, what it is about (a file, or empty), of a recipe the package, and its words."""
+    """A refusal: its status, the whole line, what it is about (a file, or empty), of a recipe the package, its words, and of a
+    file of one root of many the root's number."""
 
     status: int
     line: str
     about: str
     package: str = ""
     words: list[str] = field(default_factory=list)
+    root: Optional[int] = None
 
     def name(self) -> str:
         """The name of the fault, as `Unsupported`."""
@@ -61,8 +64,9 @@ def read(line: str) -> Optional[Fault]:
             return Fault(status, line, first, package, about[2].split(" "))
         return Fault(status, line, "missing", "", [rest.removeprefix("missing ")])
     if front == "refused":
-        first, _, behind = rest.partition(" ")
-        return Fault(status, line, first, "", behind.split(" "))
+        one = ROOT.match(rest)
+        first, _, behind = rest[one.end() if one else 0 :].partition(" ")
+        return Fault(status, line, first, "", behind.split(" "), int(one[1]) if one else None)
     if front == "too large":
         first, _, behind = rest.partition(" ")
         return Fault(status, line, "large", behind, [rest])

@@ -5,10 +5,11 @@ Reads the files of the run as they stand; says nothing where it knows nothing, a
 import errno
 import json
 import os
+import re
 from pathlib import Path
-from typing import Callable
+from typing import Callable, Optional
 
-from . import fault_files, recipe_rows, spec_faults, spec_parts
+from . import farm_view, fault_files, recipe_rows, spec_faults, spec_parts
 from .catalog import Catalog, few, nearest
 from .fault_files import Told, Words, bytes_of
 from .fault_lines import Fault
@@ -156,7 +157,8 @@ def device(fault: Fault, words: Words) -> Told:
     try:
         if not reads:
             folder = Path(path).parent
-            return Told(None, [] if os.access(folder, os.W_OK) else [f"the folder {shown(str(folder))} cannot be written"])
+            why = "is not there: make it first" if not folder.exists() else "cannot be written"
+            return Told(None, [] if os.access(folder, os.W_OK) else [f"the folder {shown(str(folder))} {why}"])
         if not Path(path).is_file():
             return Told(None, ["it is no regular file"] if Path(path).exists() else ["it is not there now"])
         with open(path, "rb") as file:
@@ -179,8 +181,51 @@ ABOUT: dict[str, Callable[[Fault, Words], Told]] = {
 }
 
 
+def root_of(fault: Fault, words: Words) -> Optional[int]:
+    """The root of `check_each` whose files a refusal is about: the one that it says, or the first that it can be of."""
+    if words.command != "check_each" or fault.root is not None:
+        return fault.root
+    count = len(spec_parts.parts(words.specs))
+    if fault.about == "lock" and fault.name() == "NotJson":
+        for number in range(count):
+            if not is_json(bytes_of(f"{words.folder}/{number}.lock")):
+                return number
+    return None
+
+
+def is_json(data: bytes) -> bool:
+    """Whether bytes are JSON, as far as Python tells."""
+    try:
+        json.loads(data)
+        return True
+    except ValueError:
+        return False
+
+
+def without_lock(fault: Fault, words: Words) -> list[str]:
+    """What a root's certificate says where `check_each` misses its lock file."""
+    file = re.fullmatch(r"(.*)/([0-9]+)\.lock", fault.words[0], re.S)
+    if words.command != "check_each" or fault.about != "missing" or not file or file[1] != words.folder:
+        return []
+    cert = Path(f"{file[1]}/{file[2]}.cert")
+    status = farm_view.end_of(cert) if cert.is_file() else "best"
+    view = f"site_tools/farm_view {shown(words.folder)} shows all roots"
+    return [f"root {file[2]} has no lock file, since `each` left it {status}: {view}"] if status in ("unsatisfiable", "undecided") else []
+
+
 def told(fault: Fault, words: Words) -> Told:
-    """What can be said behind a refusal."""
+    """What can be said behind a refusal, of one root of many as of that root alone."""
+    try:
+        number = root_of(fault, words)
+        told = told_alone(fault, words if number is None else fault_files.words_of_root(words, number))
+        told.sentences += without_lock(fault, words)
+        return told
+    except (OSError, ValueError):
+        return Told()
+
+
+def told_alone(fault: Fault, words: Words) -> Told:
+    """What can be said behind a refusal of a run over one problem."""
     if fault.name() in ("HashDiffers", "Dangling", "TwiceHash"):
         return hashes(fault, words)
     teller = ABOUT.get(fault.about)

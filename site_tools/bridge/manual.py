@@ -95,7 +95,7 @@ def section(title: str, path: Path, stop: Optional[str] = None) -> Iterator[str]
 
 def synopsis(path: Path) -> Iterator[str]:
     """The forms of the command, a line each."""
-    for found in re.findall(r"^`spack_concretize ([a-z]+) ([^`]*)`", path.read_text("utf-8"), re.M):
+    for found in re.findall(r"^`spack_concretize ([a-z_]+) ([^`]*)`", path.read_text("utf-8"), re.M):
         yield from (".PP", f"\\fBspack_concretize {found[0]}\\fR {plain(found[1])}")
 
 

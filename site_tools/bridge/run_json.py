@@ -54,6 +54,8 @@ def fault_data(err: str, words: list[str], wrong: str) -> Optional[dict[str, Any
     found: dict[str, Any] = {"about": fault.about, "name": fault.name(), "fields": fault.fields()}
     if fault.package:
         found["package"] = fault.package
+    if fault.root is not None:
+        found["root"] = fault.root
     if told.place:
         found["place"] = asdict(told.place)
     sentences = [wrong] if wrong and fault.status == 2 else told.sentences
@@ -73,13 +75,20 @@ def answer(program: str, wrong: str, words: list[str]) -> dict[str, Any]:
     status, out, err = run([program, *words])
     found: dict[str, Any] = {"version": 1, "program": program, "words": words, "status": status}
     found.update({"answer": answers.NAMES.get(status, "Ended"), **sum_of(program)})
-    found.update({"text": out} if words in OWN_WORDS and status == 0 else answers.data(out))
+    run_words = words_of(words)
+    if words in OWN_WORDS and status == 0:
+        found["text"] = out
+    else:
+        found.update(answers.data(out, run_words.command))
+        for root in found.get("roots", []):
+            root["cert"] = f"{run_words.folder}/{root['number']}.cert"
+            if root["answer"] == "Done":
+                root["lock"] = f"{run_words.folder}/{root['number']}.lock"
     if err:
         found["line"] = err.removesuffix("\n")
         fault = fault_data(err, words, wrong)
         if fault:
             found["fault"] = fault
-    run_words = words_of(words)
     if (status, run_words.command) in ((1, "explain"), (1, "reasons"), (3, "reasons")):
         catalog = Catalog(run_words.repo, run_words.settings, run_words.database)
         rows = reasons.read(out, catalog)

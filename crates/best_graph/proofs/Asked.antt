@@ -1,17 +1,16 @@
 -- Demands by their numbers: what is asked for of the demands of a problem is among those with the numbers.
-use Rattle.std.proofs.Common.{◌≡◌, refl, ap, ◌∙◌, ℕ, ◌+◌, zero, suc, Bool, true, false, List, [], ◌∷◌, Option, Some, None, cond, inl, inr, Contains, arith}
+use Rattle.std.proofs.Common.{◌≡◌, refl, ap, ◌∙◌, ℕ, ◌+◌, suc, true, false, List, [], ◌∷◌, Option, Some, None, cond, inl, inr, Contains, arith}
 use Rattle.std.specs.Prelude.{◌||◌, slice_get}
 use Rattle.std.specs.List.{filter_map, cons_option}
 use Rattle.std.proofs.Math.Dec.{eqb}
 use Rattle.std.proofs.lemmas.Bool.{eqb-true}
 use Rattle.explain_failure.specs.Uses.{stands}
 use Rattle.problem.specs.Problems.{Problem}
-use Rattle.problem.specs.Demands.{demands}
+use Rattle.problem.specs.Demands.{demands, demands_at}
 use Rattle.problem.specs.declared.demand.Demand.{Demand}
 use Rattle.graph_rules.proofs.Lists.{In, In-contains, contains-In}
 use Rattle.graph_levels.specs.Rules.{asked_among}
 use Rattle.graph_encoding.specs.Encodings.{asked_demands}
-use Rattle.best_graph.specs.Explanations.{demands_at}
 
 module _ {D : Type 0} where
   in_more : (o : Option D) (ds : List D) (d : D) → In d ds → In d (cons_option o ds)

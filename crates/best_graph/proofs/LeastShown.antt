@@ -16,7 +16,7 @@ use Rattle.graph_core.specs.Graphs.{Content}
 use Rattle.graph_decoding.specs.Decoding.{decode, IsStructured}
 use Rattle.problem.specs.Nodes.{IsWellFormed}
 use Rattle.problem.specs.Problems.{Problem}
-use Rattle.problem.specs.Demands.{demands}
+use Rattle.problem.specs.Demands.{demands, demands_at}
 use Rattle.problem.specs.declared.demand.Demand.{Demand}
 use Rattle.graph_rules.specs.Valid.{valid, valid_for, keeps_all, keeps_demand, structure_rules}
 use Rattle.graph_rules.specs.Optimal.{HasNoGraph}
@@ -29,7 +29,7 @@ use Rattle.problem_encoding.specs.Built.{rule_clauses, table_of}
 use Rattle.best_graph.proofs.Least.{all, valid-is}
 use Rattle.best_graph.proofs.Asked.{asked_at}
 use Rattle.best_graph.proofs.ReasonsShown.{HasModels}
-use Rattle.best_graph.specs.Explanations.{HasGraph, demands_at}
+use Rattle.best_graph.specs.Explanations.{HasGraph}
 use Rattle.best_graph.specs.Explanations as explanations
 use Rattle.best_graph.specs.LeastLists.{IsValidFor, HaveGraphs, IsLeastList, AreOpen, IsSpentOn}
 

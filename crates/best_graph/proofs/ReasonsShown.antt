@@ -20,7 +20,8 @@ use Rattle.problem_encoding.specs.declared.encoded.Rules.{Rules}
 use Rattle.problem_encoding.specs.Encodings.{AreRules, RulesDecode}
 use Rattle.problem_encoding.specs.Built.{rule_clauses, table_of}
 use Rattle.best_graph.proofs.Least.{all, valid-is, nothing}
-use Rattle.best_graph.specs.Explanations.{HasGraph, IsUnmet, demands_at}
+use Rattle.best_graph.specs.Explanations.{HasGraph, IsUnmet}
+use Rattle.problem.specs.Demands.{demands_at}
 use Rattle.best_graph.specs.Grounds.{IsSpent}
 use Rattle.best_graph.specs.Grounds as grounds
 use Rattle.best_graph.proofs.Asked.{asked_at}

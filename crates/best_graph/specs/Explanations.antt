@@ -1,10 +1,9 @@
 -- Why no graph of a problem is valid, or that one is.
-use Rattle.std.specs.Prelude.{◌≡◌, ℕ, ◌<◌, ◌-◌, ◌^◌, true, List, filter_map, slice_get}
+use Rattle.std.specs.Prelude.{◌≡◌, ℕ, ◌<◌, ◌-◌, ◌^◌, true, List}
 use Rattle.graph_core.specs.Graphs.{Content}
 use Rattle.problem.specs.Nodes.{IsWellFormed}
 use Rattle.problem.specs.Problems.{Problem}
-use Rattle.problem.specs.Demands.{demands}
-use Rattle.problem.specs.declared.demand.Demand.{Demand}
+use Rattle.problem.specs.Demands.{demands_at}
 use Rattle.graph_rules.specs.Valid.{valid, valid_for}
 use Rattle.graph_rules.specs.Optimal.{HasNoGraph}
 use Rattle.best_graph.specs.declared.explanation.Explanation.{Explanation}
@@ -15,10 +14,6 @@ pub record HasGraph (problem : Problem) : Type 0 where
   pub graph : Content
   pub well_formed : IsWellFormed graph
   pub is_valid : valid problem graph ≡ true
-
--- the demands of the problem that have these numbers
-abbrev pub demands_at : Problem → List ℕ → List Demand
-demands_at problem numbers = filter_map (slice_get (demands problem)) numbers
 
 -- no graph is valid, not even for these demands alone
 pub record IsUnmet (problem : Problem) (numbers : List ℕ) : Type 0 where

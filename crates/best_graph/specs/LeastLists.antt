@@ -10,7 +10,8 @@ use Rattle.problem.specs.Nodes.{IsWellFormed}
 use Rattle.problem.specs.Problems.{Problem}
 use Rattle.graph_rules.specs.Valid.{valid_for}
 use Rattle.problem_encoding.specs.Built.{rule_clauses}
-use Rattle.best_graph.specs.Explanations.{HasGraph, IsUnmet, demands_at}
+use Rattle.best_graph.specs.Explanations.{HasGraph, IsUnmet}
+use Rattle.problem.specs.Demands.{demands_at}
 use Rattle.best_graph.specs.declared.least_explanation.LeastExplanation.{LeastExplanation}
 use Rattle.best_graph.specs.declared.least_explanation.LeastExplanation.TheVariants.{Satisfiable, Least, Undecided}
 

@@ -17,14 +17,16 @@ ghost use Rattle.best_graph.specs.Answers.{HasModel, IsAnswer};
 
 use crate::answer::Answer;
 use crate::meaning::meaning_laws;
+use crate::searched::rules_to_search;
 use clause_store::{ClauseList, Lit};
 use criteria_totals::{Bits, Terms};
 use graph_decoding::decode;
+use log_trim::trim_found;
 use optimum_search::{Found, Number, Progress, Stage, found_laws, search, search_by_numbers};
 use plain_data::List;
 use possible_closure::Closure;
 use problem::Problem;
-use problem_encoding::{Encoded, Rules, encode_rules, number_ends, with_costs};
+use problem_encoding::{Encoded, Rules, number_ends, with_costs};
 use proof_log::{Log, written_laws};
 use std::alloc::{AllocError, Global};
 
@@ -44,14 +46,9 @@ pub fn best_graph<P: Progress>(
     requires limits { is_within_limits problem.now ≡ true }
     ensures { IfOk result (IsAnswer problem.now budget) }
 {
-    let packages = closure.names().len() as u64;
-    progress.tell(Stage::Encoding { packages });
-    let rules = encode_rules(alloc, problem, closure)?;
-    progress.tell(Stage::Searching {
-        variables: rules.clauses.vars(),
-        clauses: rules.clauses.len(),
-    });
+    let rules = rules_to_search(alloc, problem, closure, progress)?;
     let found = search(alloc, &rules.clauses, &[], budget)?;
+    let found = trim_found(alloc, &rules.clauses, &[], budget, found)?;
     match settled(problem, &rules, budget, found) {
         Some(answer) => Ok(answer),
         None => least(alloc, problem, rules, budget, progress),
@@ -113,6 +110,8 @@ fn least<P: Progress>(
         budget,
         progress,
     )?;
+    let (clauses, bits) = (&encoded.clauses, encoded.bits.lits());
+    let found = trim_found(alloc, clauses, bits, budget, found)?;
     answer_of(alloc, problem, &encoded, budget, found)
 }
 

@@ -11,7 +11,8 @@ ghost use Rattle.best_graph.specs.LeastLists.{ExplainsLeast, LeastRestsOn};
 
 use crate::least_explanation::LeastExplanation;
 use crate::reasons::is_finite;
-use crate::{Progress, Rules, Stage, encode_rules};
+use crate::searched::rules_to_search;
+use crate::{Progress, Rules};
 use graph_core::Graph;
 use graph_decoding::decode;
 use graph_encoding::demand_laws;
@@ -40,13 +41,7 @@ pub fn explain_least<P: Progress>(
     ensures means { IfOk result (ExplainsLeast problem.now budget) }
     ensures rests { IfOk result (LeastRestsOn problem.now budget) }
 {
-    let packages = closure.names().len() as u64;
-    progress.tell(Stage::Encoding { packages });
-    let rules = encode_rules(alloc, problem, closure)?;
-    progress.tell(Stage::Searching {
-        variables: rules.clauses.vars(),
-        clauses: rules.clauses.len(),
-    });
+    let rules = rules_to_search(alloc, problem, closure, progress)?;
     let found = least(alloc, &rules.clauses, budget)?;
     least_explanation_of(alloc, problem, &rules, budget, found)
 }

@@ -21,6 +21,7 @@ mod least_explanation;
 mod least_reasons;
 mod meaning;
 mod reasons;
+mod searched;
 mod theorems;
 
 pub use answer::Answer;

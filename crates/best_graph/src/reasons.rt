@@ -11,7 +11,8 @@ ghost use Rattle.best_graph.specs.Explanations.{Explains};
 ghost use Rattle.best_graph.specs.Grounds.{RestsOn};
 
 use crate::explanation::Explanation;
-use crate::{Progress, Rules, Stage, encode_rules};
+use crate::searched::rules_to_search;
+use crate::{Progress, Rules};
 use explain_failure::{reason_laws, reasons};
 use graph_encoding::demand_laws;
 use optimum_search::{Found, found_laws, search};
@@ -37,13 +38,7 @@ pub fn explain<P: Progress>(
     ensures means { IfOk result (Explains problem.now budget) }
     ensures rests { IfOk result (RestsOn problem.now budget) }
 {
-    let packages = closure.names().len() as u64;
-    progress.tell(Stage::Encoding { packages });
-    let rules = encode_rules(alloc, problem, closure)?;
-    progress.tell(Stage::Searching {
-        variables: rules.clauses.vars(),
-        clauses: rules.clauses.len(),
-    });
+    let rules = rules_to_search(alloc, problem, closure, progress)?;
     let found = search(alloc, &rules.clauses, &[], budget)?;
     explanation_of(alloc, problem, &rules, budget, found)
 }

@@ -8,7 +8,6 @@ use Rattle.std.specs.declared.io.ErrorKind.TheVariants as kinds
 use Rattle.outside_desk.specs.Causes.{Rose}
 use Rattle.outside_desk.specs.Files.{Files}
 use Rattle.run_output.specs.CertificateVerdicts.{no_verdict}
-use Rattle.run_output.specs.Changes.{ChangesOnly}
 use Rattle.run_output.specs.Exits.{IsAnsweredBy, IsRefusalStatus, Spoken, number_of}
 use Rattle.run_output.specs.Line.{Line}
 use Rattle.run_output.specs.Refusal.{Refusal}
@@ -19,7 +18,8 @@ use Rattle.run_output.specs.Status.TheVariants as statuses
 use Rattle.run_output.specs.Stops.{no_memory_line, output_fault_line}
 use Rattle.run_output.specs.Task.{Task}
 use Rattle.run_output.specs.Tasks.{Poses}
-use Rattle.run_output.specs.Words.{cert_path, command_of, lock_path}
+use Rattle.run_output.specs.Words.{command_of}
+use Rattle.concretizer.specs.Asked.{ChangesOnly}
 use Rattle.concretizer.specs.Headline.{HasOutdone, HasShown, IsDone, IsOfInput, IsOutOfMemory, IsOutdated, IsReadFault, IsRefused, IsSilent, IsUndecided, IsUnsatisfiable, IsWriteFault, Keeps, Reports, ReportsWords, Says, SaysFront, Settles}
 use Rattle.concretizer.specs.Logs.{IsLogged, KeepsFor}
 
@@ -42,7 +42,7 @@ pub record IsAnswered (words : List (List ℕ)) (files : Option Files × Option 
   pub write_fault : status ≡ statuses.WriteFault → IsWriteFault meaning words files puts says errs out err
   pub no_memory : status ≡ statuses.NoMemory → IsOutOfMemory meaning words files says out err
   pub steady : IsOfInput status → (reads.1 ≡ reads.0) × (puts.1 ≡ puts.0) × (says.1 ≡ says.0) × (errs.1 ≡ errs.0)
-  pub others : IfSome files.0 (λ before. ChangesOnly (lock_path words) (cert_path words) before files.1)
+  pub others : IfSome files.0 (λ before. ChangesOnly words before files.1)
   pub held : IfSome files.0 (λ before. Keeps meaning before words files.1)
   pub logged : IsLogged words files reads puts says errs out err status
   pub keeps : IfSome files.0 (λ before. KeepsFor status before words files.1 out kept)

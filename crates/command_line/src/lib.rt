@@ -51,8 +51,9 @@ fn refused(error: &Error) -> ExitCode
 /// Runs the words behind the program's name over the machine's files. What is answered goes to `out`, and
 /// why a run stops to `err`. Where the environment names a file in `SPACK_CONCRETIZE_STAGE`, that holds what the run is at.
 ///
-/// `concretize` is refused as Usage, before anything is read, where LOCK and CERT lead to one file, or one of them to SETTINGS, DATABASE
-/// or a recipe that stands: what is put there would be lost to the other. `run` compares the words alone, since a desk tells no links.
+/// `concretize` and `each` are refused as Usage, before anything is read, where two files that they put lead to one file, or one of them
+/// to SETTINGS, DATABASE or a recipe that stands: what is put there would be lost to the other. `run` compares the words alone, since a
+/// desk tells no links.
 ///
 /// It ends with the number of the answer: its place in the list, from 0 for `Done` to 9 for `NoMemory`, and 11 for `Stale`.
 /// Where the system refuses the words it says nothing, and ends with 9 for want of memory and with 10 for

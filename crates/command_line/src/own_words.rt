@@ -18,6 +18,8 @@ spack_concretize finds the best build graph of specs over a repository of recipe
   reasons REPO SETTINGS DATABASE SPEC..                the same, by a list that needs each of its lines
   find REPO SETTINGS DATABASE SPEC..                   which installed packages meet the spec
   plan REPO SETTINGS DATABASE LOCK SPEC..              in which waves the graph of LOCK can be built
+  each REPO SETTINGS DATABASE DIR SPEC..               finds the best of each spec by itself, into DIR
+  check_each REPO SETTINGS DATABASE DIR SPEC..         whether all in DIR are the best
   trial N SEED                                         finds the best graph of N made packages
   --help, --version                                    this text, or which program this is
 

@@ -1,10 +1,12 @@
 -- What a writing that stopped leaves of a whole attempt.
-use Rattle.std.proofs.Common.{◌≡◌, refl, ap, subst, ◌∙◌, false, ℕ, List, Option, Some, None, Result, Ok, Err, inl, inr, ◌⊎◌}
+use Rattle.std.proofs.Common.{◌≡◌, refl, sym, ap, subst, ◌∙◌, false, ℕ, ◌+◌, ◌⊎◌, ⊎_elim, arith, length, [], ◌∷◌, List, Option, Some, None, Result, Ok, Err, inl, inr}
+use Rattle.std.proofs.lemmas.List.{length-map}
 use Rattle.std.specs.Result.{IsErrAnd}
 use Rattle.std.specs.Prelude.{IfSome}
 use Rattle.outside_desk.specs.Files.{Files}
 use Rattle.run_output.specs.Answer.{Answer}
-use Rattle.run_output.specs.Answers.{IsHalfPut, KeepsWhole, Writes}
+use Rattle.run_output.specs.Answers.{KeepsWhole, Writes}
+use Rattle.run_output.specs.Put.{IsHalfPut, files_with}
 use Rattle.run_output.specs.Certificates.{log_verdict}
 use Rattle.run_output.specs.Evidence.{evidence}
 use Rattle.run_output.specs.declared.answer.Outcome.{Outcome}
@@ -14,13 +16,16 @@ use Rattle.run_output.specs.Stop.{Stop}
 use Rattle.run_output.specs.Stop.TheVariants.{Write}
 use Rattle.run_output.specs.Task.{Task}
 use Rattle.run_output.specs.Task.TheVariants as tasks
-use Rattle.run_output.specs.Tasks.{Named, IsOf}
-use Rattle.run_output.specs.Words.{Command, command_of, is_dash_path, lock_path, cert_path}
+use Rattle.run_output.specs.Tasks.{HasRoots, Named, IsOf}
+use Rattle.run_output.specs.Problems.{Problem, alone, apart}
+use Rattle.run_output.specs.Each.{IsHalfFrom}
+use Rattle.run_output.specs.Places.{IsOfRoots, cert_at, lock_at}
+use Rattle.run_output.specs.Words.{Command, cert_of_command, command_of, is_dash_path, lock_of_command, lock_path, cert_path}
 use Rattle.run_output.specs.Work.{Work}
 use Rattle.run_output.specs.Work.TheVariants as works
 use Rattle.run_output.specs.WriteStop.{WriteStop}
 use Rattle.run_output.specs.WriteStop.TheVariants.{Put, Output, NoMemory}
-use Rattle.concretizer.specs.Asked.{IsAsked, IsPutPath}
+use Rattle.concretizer.specs.Asked.{IsAsked, IsPutBy, IsPutPath, PutsFiles}
 use Rattle.concretizer.specs.Attempts.{Attempts, Follows, StopsBefore}
 use Rattle.concretizer.specs.Headline.{Keeps}
 
@@ -82,38 +87,83 @@ held words command lock cert task (Some files) between after ordered read same a
           (subst (λ (m : Option Files). KeepsWhole evidence lock cert task m after) same whole);
     })
 
-is_concretize : (work : Work) (input : Input) → IsOf work (tasks.Solve input) → work ≡ works.Concretize
+-- the path of a put that failed, of one answer
+put_at : (lock cert : List ℕ) (problem : Problem) (answer : Answer) (at : List ℕ) (before after : Option Files)
+    → IsHalfPut lock cert problem answer at before after → (at ≡ lock) ⊎ ((at ≡ cert) × (is_dash_path cert ≡ false))
+put_at lock cert problem answer at before after (inl (same, (dash, held))) = inr (same, dash)
+put_at lock cert problem answer at before after (inr (same, held)) = inl same
+
+-- of the answers of all roots, from a number on
+put_from : (dir : List ℕ) (count root : ℕ) (problems : List Problem) (found : List Answer) (at : List ℕ) (before after : Option Files)
+    → root + length problems ≡ count → IsHalfFrom dir root problems found at before after → IsOfRoots dir count at
+put_from dir count root [] found at before after all half = absurd half
+put_from dir count root (problem ∷ more) [] at before after all half = absurd half
+put_from dir count root (problem ∷ more) (answer ∷ others) at before after all (inl half) = record {
+  root = root;
+  within = omega (arith, all);
+  is_path = ⊎_elim (λ (same : at ≡ lock_at dir root). inl same) (λ (pair : (at ≡ cert_at dir root) × (is_dash_path (cert_at dir root) ≡ false)). inr pair.0)
+      (put_at (lock_at dir root) (cert_at dir root) problem answer at before after half);
+}
+put_from dir count root (problem ∷ more) (answer ∷ others) at before after all (inr half) =
+    put_from dir count (root + 1) more others at (files_with (lock_at dir root) (cert_at dir root) problem answer before) after
+    (omega (arith, all)) half
+
+pub is_concretize : (work : Work) (input : Input) → IsOf work (tasks.Solve input) → work ≡ works.Concretize
 is_concretize works.Concretize input of = refl
 is_concretize other input of = absurd of
 
--- the path of a put that failed
-put_path : (words : List (List ℕ)) (lock cert : List ℕ) (input : Input) (answer : Answer) (at : List ℕ) (before after : Option Files)
-    → lock ≡ lock_path words → cert ≡ cert_path words → IsHalfPut lock cert input.problem answer at before after → IsPutPath words at
-put_path words lock cert input answer at before after is_lock is_cert (inl (same, (dash, held))) =
-    inr (same ∙ is_cert, subst (λ (c : List ℕ). is_dash_path c ≡ false) is_cert dash)
-put_path words lock cert input answer at before after is_lock is_cert (inr (same, held)) = inl (same ∙ is_lock)
+pub is_each : (work : Work) (input : Input) → IsOf work (tasks.Each input) → work ≡ works.Each
+is_each works.Each input of = refl
+is_each other input of = absurd of
 
 follows_here : (told : Option Files) (words : List (List ℕ)) (lock cert : List ℕ) (task : Task) (stop : WriteStop) (before after : Option Files)
     (said_before said_after : Option (List ℕ))
-    → (asked : IsAsked words) → IsOf asked.command.work task → lock ≡ lock_path words → cert ≡ cert_path words
+    → (asked : IsAsked words) → IsOf asked.command.work task → HasRoots asked.command.spec task → lock ≡ lock_path words → cert ≡ cert_path words
     → Writes evidence lock cert task before after said_before said_after (Err stop) → Follows told words (Err (Write stop))
-follows_here told words lock cert (tasks.Solve input) (Put at) before after said_before said_after asked work is_lock is_cert (left, unsaid) = (
-  record { asked = asked; work = is_concretize asked.command.work input work },
-  put_path words lock cert input left.answer at before after is_lock is_cert left.half,
-)
-follows_here told words lock cert other (Put at) before after said_before said_after asked work is_lock is_cert left = absurd left.0
-follows_here told words lock cert task Output before after said_before said_after asked work is_lock is_cert left = asked
-follows_here told words lock cert task NoMemory before after said_before said_after asked work is_lock is_cert left = tt
+follows_here told words lock cert (tasks.Solve input) (Put at) before after said_before said_after asked work roots is_lock is_cert (left, unsaid) =
+    let same = is_concretize asked.command.work input work in
+    let command = asked.command in
+    let at_lock : lock ≡ command.lock = is_lock ∙ ap lock_of_command asked.named in
+    let at_cert : cert ≡ command.cert = is_cert ∙ ap cert_of_command asked.named in
+    let path = put_at lock cert input.problem left.answer at before after left.half in (
+      record { asked = asked; work = subst PutsFiles (sym same) tt },
+      record {
+        command = command;
+        named = asked.named;
+        put = subst (λ (w : Work). IsPutBy w command at) (sym same)
+            (by_paths (λ l c. (at ≡ l) ⊎ ((at ≡ c) × (is_dash_path c ≡ false))) lock cert command.lock command.cert at_lock at_cert path);
+      },
+    )
+follows_here told words lock cert (tasks.Each input) (Put at) before after said_before said_after asked work roots is_lock is_cert (left, unsaid) =
+    let same = is_each asked.command.work input work in
+    let command = asked.command in
+    let at_lock : lock ≡ command.lock = is_lock ∙ ap lock_of_command asked.named in (
+      record { asked = asked; work = subst PutsFiles (sym same) tt },
+      record {
+        command = command;
+        named = asked.named;
+        put = subst (λ (w : Work). IsPutBy w command at) (sym same) (record {
+          roots = input.problem.roots;
+          read = roots;
+          inside = subst (λ (d : List ℕ). IsOfRoots d (length input.problem.roots) at) at_lock
+              (put_from lock (length input.problem.roots) 0 (apart input.problem) left.found at before after
+              (omega (arith, length-map {B = Problem} input.problem.roots (alone input.problem))) left.half);
+        });
+      },
+    )
+follows_here told words lock cert other (Put at) before after said_before said_after asked work roots is_lock is_cert left = absurd left.0
+follows_here told words lock cert task Output before after said_before said_after asked work roots is_lock is_cert left = asked
+follows_here told words lock cert task NoMemory before after said_before said_after asked work roots is_lock is_cert left = tt
 
 -- a writing that stopped, by the words
 pub follows : (told : Option Files) (words : List (List ℕ)) (lock cert : List ℕ) (task : Task) (stop : WriteStop) (result : Result Outcome Stop)
     (before after : Option Files) (said_before said_after : Option (List ℕ))
     → IsErrAnd result (λ given. given ≡ Write stop) → (asked : IsAsked words) → IsOf asked.command.work task
-    → lock ≡ lock_path words → cert ≡ cert_path words
+    → HasRoots asked.command.spec task → lock ≡ lock_path words → cert ≡ cert_path words
     → Writes evidence lock cert task before after said_before said_after (Err stop) → Follows told words result
-follows told words lock cert task stop result before after said_before said_after carried asked work is_lock is_cert left =
+follows told words lock cert task stop result before after said_before said_after carried asked work roots is_lock is_cert left =
     rw (write_carried stop result carried)
-    (follows_here told words lock cert task stop before after said_before said_after asked work is_lock is_cert left)
+    (follows_here told words lock cert task stop before after said_before said_after asked work roots is_lock is_cert left)
 
 -- what is said by a writing that stopped before
 quiet : (lock cert : List ℕ) (task : Task) (stop : WriteStop) (before after : Option Files) (said_before said_after : Option (List ℕ))

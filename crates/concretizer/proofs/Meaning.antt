@@ -1,5 +1,5 @@
 -- What is shown is meant: a run by its evidence is one by its meaning.
-use Rattle.std.proofs.Common.{◌≡◌, ℕ, List, Option, Some, None, Result, Ok, Err, inl, inr}
+use Rattle.std.proofs.Common.{ℕ, List, Option, Some, None, Result, Ok, Err, inl, inr}
 use Rattle.std.specs.Prelude.{IfSome}
 use Rattle.outside_desk.specs.Files.{Files}
 use Rattle.run_output.specs.CertificateVerdicts.{any_verdict}

@@ -54,6 +54,7 @@ refuses refusals.OtherRoots = tt
 refuses (refusals.BrokenRule rule node number) = tt
 refuses refusals.CertificateTooLarge = tt
 refuses (refusals.BadCertificate number fault) = tt
+refuses (refusals.InRoot root fault) = tt
 
 -- a status that no refusal has
 pub unlike : (refusal : Refusal) (result status : Status) → result ≡ status_of refusal → result ≡ status → (IsRefusalStatus status → ⊥) → ⊥

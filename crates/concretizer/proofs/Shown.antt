@@ -1,5 +1,5 @@
 -- What an answer shows of the files that others made.
-use Rattle.std.proofs.Common.{◌≡◌, refl, sym, subst, ◌∙◌, Bool, true, false, ℕ, List, Option, Some, None}
+use Rattle.std.proofs.Common.{◌≡◌, refl, subst, Bool, true, false, ℕ, List, Option, Some, None}
 use Rattle.std.specs.Prelude.{IfSome, Ok}
 use Rattle.std.proofs.lemmas.Bool.{false≢true}
 use Rattle.outside_desk.specs.Files.{Files}
@@ -13,7 +13,7 @@ use Rattle.run_output.specs.LeastExplanation.{LeastExplanation}
 use Rattle.run_output.specs.LeastExplanation.TheVariants as least
 use Rattle.run_output.specs.LeastTexts.{least_outcome}
 use Rattle.run_output.specs.Problems.{Problem}
-use Rattle.run_output.specs.Shown.{IsOutdone, IsSeen, IsShown, IsShownOver, IsShownUnless, OutdoneBy, SeenBy, ShownBy}
+use Rattle.run_output.specs.Shown.{IsSeen, IsShownOver, IsShownUnless, OutdoneBy, SeenBy, ShownBy}
 use Rattle.run_output.specs.Task.{Task}
 use Rattle.run_output.specs.Task.TheVariants as tasks
 use Rattle.run_output.specs.Tasks.{IsOf, files_for, is_search}
@@ -50,6 +50,8 @@ module _ (lock cert : List ℕ) (before after : Option Files) (said more : Optio
   never_better : (work : Work) (task : Task) → IsOf work task → HasBetter evidence task before after said more → work ≡ works.Fresh
   never_better works.Fresh task of better = refl
   never_better works.Concretize (tasks.Solve input) of better = absurd better
+  never_better works.Each (tasks.Each input) of better = absurd better
+  never_better works.CheckEach tasks.Accepted of better = absurd (not_solved better.tells.0)
   never_better works.Judge (tasks.Report numbers) of better = absurd (not_solved better.tells.0)
   never_better works.Check tasks.Accepted of better = absurd (not_solved better.tells.0)
   never_better works.Refute tasks.Accepted of better = absurd (not_solved better.tells.0)
@@ -67,6 +69,7 @@ module _ (lock cert : List ℕ) (before after : Option Files) (said more : Optio
         → IsFinished evidence lock cert task before after said more → ShownBy work files command problem
     yes_of works.Check of seen finished = seen
     yes_of works.Refute of seen finished = seen
+    yes_of works.CheckEach of seen finished = seen
     yes_of works.Fresh of seen finished = of_task task of seen finished
       where
         of_task : (task : Task) → IsOf works.Fresh task → SeenBy works.Fresh task files command problem

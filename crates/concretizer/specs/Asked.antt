@@ -1,8 +1,11 @@
 -- What the words say of a run, for any desk.
-use Rattle.std.specs.Prelude.{◌≡◌, ◌⊎◌, ℕ, false, List, Option, Some}
+use Rattle.std.specs.Prelude.{◌≡◌, ◌⊎◌, ℕ, false, List, Option, Some, IsSomeAnd}
+use Rattle.std.specs.FinMap.{get}
 use Rattle.outside_desk.specs.Files.{Files}
 use Rattle.run_output.specs.Tasks.{HasSpecs, IsTaskPath}
-use Rattle.run_output.specs.Words.{Command, command_of, is_dash_path, lock_path, cert_path}
+use Rattle.run_output.specs.Places.{IsRootFile}
+use Rattle.run_output.specs.Words.{Command, command_of, is_dash_path}
+use Rattle.run_output.specs.Work.{Work}
 use Rattle.run_output.specs.Work.TheVariants as works
 
 -- the words are a command whose specs are read
@@ -11,14 +14,33 @@ pub record IsAsked (words : List (List ℕ)) : Type 0 where
   pub named : command_of words ≡ Some command
   pub asks : HasSpecs command
 
--- they are `concretize`, the one command that puts files
+-- the two commands that put files
+abbrev pub PutsFiles : Work → Type 0
+PutsFiles works.Concretize = Unit {0}
+PutsFiles works.Each = Unit {0}
+PutsFiles other = ⊥
+
+-- the words are one of them
 pub record IsLocking (words : List (List ℕ)) : Type 0 where
   pub asked : IsAsked words
-  pub work : asked.command.work ≡ works.Concretize
+  pub work : PutsFiles asked.command.work
 
--- the path is that of the lock file, or of the certificate where there is one
-abbrev pub IsPutPath : List (List ℕ) → List ℕ → Type 0
-IsPutPath words path = (path ≡ lock_path words) ⊎ ((path ≡ cert_path words) × (is_dash_path (cert_path words) ≡ false))
+-- the path is one at which a command may put a file: of `concretize` that of the lock file, or of the certificate where there is one; of
+-- `each` those of both for each root, by its number, in the folder that stands in the lock file's place; of all others none
+abbrev pub IsPutBy : Work → Command → List ℕ → Type 0
+IsPutBy works.Concretize command path = (path ≡ command.lock) ⊎ ((path ≡ command.cert) × (is_dash_path command.cert ≡ false))
+IsPutBy works.Each command path = IsRootFile command path
+IsPutBy other command path = ⊥
+
+pub record IsPutPath (words : List (List ℕ)) (path : List ℕ) : Type 0 where
+  pub command : Command
+  pub named : command_of words ≡ Some command
+  pub put : IsPutBy command.work command path
+
+-- no file at any other path changed
+abbrev pub ChangesOnly : List (List ℕ) → Files → Option Files → Type 0
+ChangesOnly words before after =
+    IsSomeAnd after (λ files. (path : List ℕ) → ¬ IsPutPath words path → get files path ≡ get before path)
 
 -- the words are a command that reads a file or folder at the path: of recipes those that the folder of packages names, where
 -- the desk tells its files

@@ -38,9 +38,10 @@ SaysFront said line = SaysPart said.0 said.1 line
 
 -- Done, by `concretize` (`IsSolved` in `run_output`): LOCK holds the lock file of a graph that is well-formed and optimal
 -- for the problem that was read, CERT, unless it is `-`, the text of a log (as evidence, a certificate of its costs), every
--- other file is as at entry, its lines were said, and nothing else was. By the other commands (`IsTold`): no file changed, and
+-- other file is as at entry, its lines were said, and nothing else was. By `each` (`AreSolvedApart`): so it is for each root by itself, with
+-- the files of its number in DIR, and the lines of all roots were said. By the other commands (`IsTold`): no file changed, and
 -- what the task comes to was said: of `judge` the cost vector of the lock file's valid graph, of `fresh` that no valid graph costs
--- less than it, of `check` and `refute` that the certificate is right, of `explain` and `reasons` that some graph is valid, of `find` exactly the
+-- less than it, of `check`, `check_each` and `refute` that the certificates are right, of `explain` and `reasons` that some graph is valid, of `find` exactly the
 -- installed packages that meet the condition, of `plan` the earliest order in which the lock file's valid graph can be built, of
 -- `trial` the counts of an optimal graph
 pub record IsDone (sense : Sense) (files : Files) (words : List (List ℕ)) (after : Option Files) (out err : Spoken) : Type 0 where
@@ -50,7 +51,8 @@ pub record IsDone (sense : Sense) (files : Files) (words : List (List ℕ)) (aft
   pub errors : IsSilent err
 
 -- What the yes of a command shows, whoever made the files (`IsShown` in `run_task`): of `check` and `fresh`, that LOCK holds a lock
--- file of just the roots that are asked for, and that its graph is optimal for the problem that was read; of `refute`, that no graph
+-- file of just the roots that are asked for, and that its graph is optimal for the problem that was read; of `check_each` the same of DIR/N.lock
+-- for each root by itself; of `refute`, that no graph
 -- is valid
 pub record HasShown (files : Files) (words : List (List ℕ)) : Type 0 where
   pub command : Command
@@ -78,21 +80,22 @@ ShowsBy outcomes.Stale files words = HasOutdone files words
 ShowsBy other files words = Unit {0}
 
 -- Unsatisfiable, by `concretize`: no graph is valid, CERT holds the text of a log (as evidence, it refutes the problem), and every
--- other file is as at entry. By `explain`: a line was said for each demand that a refutation of the problem rests on, and no
+-- other file is as at entry. By `each`: no graph is valid for the first root by itself that has none, the roots before it have theirs, and
+-- each root was answered as `IsDone` says of those with a graph. By `explain`: a line was said for each demand that a refutation of the problem rests on, and no
 -- graph is valid for these alone; by `reasons` (`IsLeastList` in `best_graph`) a line for each of some demands for which no graph is
 -- valid, and below each the nodes of a graph that is valid for all others, so that none can be left out; by `trial`: no graph of the made input is valid; no file changed
 pub record IsUnsatisfiable (sense : Sense) (files : Files) (words : List (List ℕ)) (after : Option Files) (out err : Spoken) : Type 0 where
   pub task : Task
   pub read : Poses sense.verdicts files words (Ok task)
-  pub none : HasNone sense (cert_path words) task (Some files) after out.0 out.1
+  pub none : HasNone sense (lock_path words) (cert_path words) task (Some files) after out.0 out.1
   pub errors : IsSilent err
 
 -- Undecided, by `concretize`: the budget of the settings was spent, CERT holds the text of a log (as evidence, it shows that), and
--- every other file is as at entry; by `explain`, `reasons`, `fresh` and `trial` likewise, and no file changed
+-- every other file is as at entry; by `each` it was spent for the first root without a graph; by `explain`, `reasons`, `fresh` and `trial` likewise, and no file changed
 pub record IsUndecided (sense : Sense) (files : Files) (words : List (List ℕ)) (after : Option Files) (out err : Spoken) : Type 0 where
   pub task : Task
   pub read : Poses sense.verdicts files words (Ok task)
-  pub spent : HasSpent sense (cert_path words) task (Some files) after out.0 out.1
+  pub spent : HasSpent sense (lock_path words) (cert_path words) task (Some files) after out.0 out.1
   pub errors : IsSilent err
 
 -- BadInput, TooLarge and Refused: reading refuses, in its order; no file changed, and the refusal was said
@@ -105,7 +108,8 @@ pub record IsRefused (sense : Sense) (files : Files) (words : List (List ℕ)) (
   pub errors : Says err (line_of_refusal refusal)
 
 -- ReadFault: the desk failed to read the settings, the folder of packages, a recipe that it names, the database, or what the command
--- looks at besides: the lock file (`judge`, `check`, `fresh`, `plan`), the certificate (`check`, `refute`); and that was said
+-- looks at besides: the lock file (`judge`, `check`, `fresh`, `plan`), the certificate (`check`, `refute`), both of each root (`check_each`); and that
+-- was said
 pub record IsReadFault (words : List (List ℕ)) (faults : ℕ × ℕ) (files : Option Files × Option Files) (out err : Spoken) : Type 0 where
   pub path : List ℕ
   pub read : IsRead files.0 words path
@@ -130,7 +134,7 @@ pub record IsPutFault (sense : Sense) (words : List (List ℕ)) (files : Option 
   pub output : IsSilent out
   pub errors : Says err (write_fault_line path)
 
--- what a fault of the sink of the answer leaves: all files of the answer whole, no file changed by other commands than `concretize`,
+-- what a fault of the sink of the answer leaves: all files of the answer whole, no file changed by other commands than `concretize` and `each`,
 -- and a front of what was to be said
 pub record LeavesAll (sense : Sense) (files : Files) (words : List (List ℕ)) (after : Option Files) (out : Spoken) : Type 0 where
   pub task : Task
@@ -169,7 +173,8 @@ pub record IsOutOfMemory (sense : Sense) (words : List (List ℕ)) (files : Opti
   pub errors : IsSilent err ⊎ Says err no_memory_line
 
 -- Whatever the answer: the files are as at entry, or reading gave a problem to solve, and CERT alone changed and holds the log
--- of its answer; or it does so, unless it is `-`, and LOCK is as at entry, or holds the lock file of an optimal graph
+-- of its answer; or it does so, unless it is `-`, and LOCK is as at entry, or holds the lock file of an optimal graph. Of `each` that holds of
+-- one root, and the files of all roots before it are whole
 pub record HasPut (sense : Sense) (files : Files) (words : List (List ℕ)) (after : Option Files) : Type 0 where
   pub task : Task
   pub read : Poses sense.verdicts files words (Ok task)

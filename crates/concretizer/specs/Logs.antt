@@ -57,7 +57,8 @@ pub record IsLogged (words : List (List ℕ)) (files : Option Files × Option Fi
 
 -- ---- what is kept
 
--- what is kept of a run that came to this: the log of the answer whose files were put, or of the trial; the log that left `reasons`
+-- what is kept of a run that came to this: the log of the answer whose files were put, of `each` that of the first root without a graph,
+-- or of the trial; the log that left `reasons`
 -- undecided, which spent the budget over the clauses of the demands that were said; of other commands no line
 pub record HasKept (files : Files) (words : List (List ℕ)) (outcome : Outcome) (after : Option Files) (out : Spoken) (kept : List Line) : Type 0 where
   pub task : Task

@@ -21,12 +21,13 @@ use std::thread::Threads;
 fn reading_of(command: &Command<'_>) -> Stage {
     match command.work {
         Work::Concretize
+        | Work::Each
         | Work::Fresh
         | Work::Explain
         | Work::Reasons
         | Work::Find
         | Work::Trial { .. } => Stage::Reading,
-        Work::Judge | Work::Check | Work::Refute | Work::Plan => Stage::Checking,
+        Work::Judge | Work::Check | Work::CheckEach | Work::Refute | Work::Plan => Stage::Checking,
     }
 }
 
@@ -66,6 +67,7 @@ fn attempt_by<R: Threads + Sync, D: Desk, O: Sink, P: Progress>(
     progress.tell(reading_of(command));
     let task = read_task(rt, alloc, desk, command)?;
     let answer = write_answer(
+        rt,
         alloc,
         &task,
         command.lock,

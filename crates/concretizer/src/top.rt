@@ -4,13 +4,13 @@ ghost use Rattle.std.specs.Prelude.{◌≡◌, ◌≤◌, None, Ok, Err, IfSome}
 ghost use Rattle.run_answers.specs.Exits.{IsAnsweredBy, IsRefusalStatus};
 ghost use Rattle.outside_desk.specs.Causes.{Rose};
 ghost use Rattle.run_output.specs.CertificateVerdicts.{no_verdict};
-ghost use Rattle.run_output.specs.Changes.{ChangesOnly};
 ghost use Rattle.run_output.specs.Refusal.{Refusal};
 ghost use Rattle.run_output.specs.Refusals.{status_of};
 ghost use Rattle.run_output.specs.Senses.{meaning};
 ghost use Rattle.run_output.specs.Task.{Task};
 ghost use Rattle.run_output.specs.Tasks.{Poses};
-ghost use Rattle.run_output.specs.Words.{words_of, command_of, lock_path, cert_path};
+ghost use Rattle.run_output.specs.Words.{words_of, command_of};
+ghost use Rattle.concretizer.specs.Asked.{ChangesOnly};
 ghost use Rattle.concretizer.specs.Logs.{IsLogged, KeepsFor};
 ghost use Rattle.concretizer.specs.Headline.{IsDone, HasShown, HasOutdone, IsUnsatisfiable, IsUndecided, IsOutdated, IsRefused, IsReadFault, IsWriteFault, IsOutOfMemory, IsOfInput, Keeps, Settles, ReportsWords};
 
@@ -39,11 +39,17 @@ use std::thread::Threads;
 /// - `find REPO SETTINGS DATABASE SPEC..`: `out` gets a line for each installed package that meets the spec, which need not name one.
 /// - `plan REPO SETTINGS DATABASE LOCK SPEC..`: where LOCK holds a valid graph of the specs, `out` gets its packages to build in waves,
 ///   each of which needs only those before it, and a chain of packages that shows that there are no fewer.
+/// - `each REPO SETTINGS DATABASE DIR SPEC..` finds the best graph of each spec by itself, all of them beside each other. When all are found,
+///   the certificate of the one with number N, from 0, is put at DIR/N.cert, and where there is a graph its lock file at DIR/N.lock;
+///   `out` gets for each a line `root N SPEC`, and then its cost vector, or why there is no graph. The answer is that of the first spec
+///   without a graph.
+/// - `check_each REPO SETTINGS DATABASE DIR SPEC..` does for each spec by itself as `check` does over these two files: where each is the
+///   best, `out` gets `accepted`.
 /// - `trial N SEED` finds the best graph of N packages that are made in memory; `out` gets how many nodes it has, its cost vector
 ///   and how many clauses were learnt.
 ///
-/// At the return `kept` holds the log of the answer that `concretize` or `trial` found, or of the search that left `reasons` undecided,
-/// whatever it held before; of the other commands, and where reading stopped the run, it holds no line. Where memory ran out or a write
+/// At the return `kept` holds the log of the answer that `concretize` or `trial` found, of the first spec of `each` without a graph, or of
+/// the search that left `reasons` undecided, whatever it held before; of the other commands, and where reading stopped the run, it holds no line. Where memory ran out or a write
 /// failed it holds the one or the other.
 ///
 /// `progress` is told how far the run is. It is a device apart from the others: what follows holds whatever it does.
@@ -107,9 +113,9 @@ pub fn run<R: Threads + Sync, D: Desk, O: Sink, E: Sink, P: Progress>(
         × (D.put_faults desk.new ≡ D.put_faults desk.old)
         × (O.faults out.new ≡ O.faults out.old) × (E.faults err.new ≡ E.faults err.old) }
 
-    // No file but the certificate and the lock file changes, and each is as it was or holds its whole text, whatever comes.
-    ensures others { IfSome (D.files desk.old) (λ files. ChangesOnly
-        (lock_path (words_of words.now)) (cert_path (words_of words.now)) files (D.files desk.new)) }
+    // No file changes but those at LOCK and CERT of `concretize`, and at DIR/N.lock and DIR/N.cert of `each` with N below the number
+    // of roots, and each is as it was or holds its whole text, whatever comes.
+    ensures others { IfSome (D.files desk.old) (λ files. ChangesOnly (words_of words.now) files (D.files desk.new)) }
     ensures held { IfSome (D.files desk.old)
         (λ files. Keeps meaning files (words_of words.now) (D.files desk.new)) }
 

@@ -1,5 +1,5 @@
 // What specs and conditions mean at a node of a graph.
-ghost use Rattle.std.specs.Prelude.{◌≡◌, ◌&&◌, IfOk, option_and_then};
+ghost use Rattle.std.specs.Prelude.{◌≡◌, ◌&&◌, IfOk, map, option_and_then};
 ghost use Rattle.std.specs.List.{list_all};
 ghost use Rattle.std.specs.Option.{option_copied};
 ghost use Rattle.virtuals.specs.OfGraphCore.Graphs.{Text, node_of, provider_of};
@@ -7,10 +7,10 @@ ghost use Rattle.virtuals.specs.OfGraphCore.Paths.{reaches_in};
 ghost use Rattle.condition_rules.specs.Words.{is_some_and, find_last};
 ghost use Rattle.condition_rules.specs.Meets.{meets};
 ghost use Rattle.condition_rules.specs.Below.{suited, node_below};
-ghost use Rattle.condition_rules.specs.Holds.{asked_node, suits, holds_below, holds, all_hold, is_governed_by, governing};
+ghost use Rattle.condition_rules.specs.Holds.{asked_node, suits, holds_below, holds, all_hold, governing};
 
 use crate::at_node::{meets, meets_rest, provides};
-use crate::{Paths, World};
+use crate::{Definitions, Paths, World};
 use std::alloc::{AllocError, Global};
 use virtuals::{Condition, Graph, Node, Part, Spec, VariantRow, VersionSet};
 
@@ -183,63 +183,46 @@ pub fn all_hold<P: Paths>(
     each_holds(alloc, world, condition.specs.as_slice(), graph, name)
 }
 
-fn is_governed_by<P: Paths>(
+/// The last of the rows whose condition holds.
+fn last_holding<'a, P: Paths>(
     alloc: Global,
     world: &World,
     graph: &P,
     name: &str,
-    variant: &str,
-    row: &VariantRow,
-) -> Result<bool, AllocError>
-    ensures { IfOk result (λ answer. answer ≡ is_governed_by world.now (P.graph_of graph.now)
-        name.now variant.now row.now) }
-{
-    Ok(row.name.as_str() == variant && all_hold(alloc, world, &row.when, graph, name)?)
-}
-
-/// The last of the rows that defines the variant under a condition that holds.
-fn last_governing<'a, P: Paths>(
-    alloc: Global,
-    world: &World,
-    graph: &P,
-    name: &str,
-    variant: &str,
-    rows: &'a [VariantRow],
+    rows: &[&'a VariantRow],
 ) -> Result<Option<&'a VariantRow>, AllocError>
     ensures { IfOk result (λ last. option_copied last
-        ≡ find_last (is_governed_by world.now (P.graph_of graph.now) name.now variant.now)
-        rows.now) }
+        ≡ find_last (λ row. all_hold world.now row.when (P.graph_of graph.now) name.now)
+        (map (λ row. row.now) rows.now)) }
 {
     let mut last = None;
     for row in rows {
-        if is_governed_by(alloc, world, graph, name, variant, row)? {
-            last = Some(row);
+        if all_hold(alloc, world, &row.when, graph, name)? {
+            last = Some(*row);
         }
     }
     Ok(last)
 }
 
 /// The last definition of a variant whose condition holds at a node.
+///
+/// Takes two searches in the sorted definitions, and asks the conditions of those of the variant.
 #[tactic(auto, unfolding(crate::specs::Holds::governing))]
 pub fn governing<'a, P: Paths>(
     alloc: Global,
-    world: &World<'a>,
+    definitions: &Definitions<'a>,
     graph: &P,
-    name: &str,
     variant: &str,
 ) -> Result<Option<&'a VariantRow>, AllocError>
-    ensures { IfOk result (λ last. option_copied last ≡ governing world.now (P.graph_of graph.now)
-        name.now variant.now) }
+    ensures { IfOk result (λ last. option_copied last ≡ governing definitions.now.0
+        (P.graph_of graph.now) definitions.now.1 variant.now) }
 {
-    match world.recipe(name) {
-        Some(recipe) => last_governing(
-            alloc,
-            world,
-            graph,
-            name,
-            variant,
-            recipe.variants.as_slice(),
-        ),
-        None => Ok(None),
-    }
+    let rows = definitions.of(alloc, variant)?;
+    last_holding(
+        alloc,
+        definitions.world(),
+        graph,
+        definitions.name(),
+        rows.as_slice(),
+    )
 }

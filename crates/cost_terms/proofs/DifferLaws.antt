@@ -1,16 +1,14 @@
 -- Whether what is chosen of two lists differs.
-use Rattle.std.proofs.Common.{◌≡◌, refl, sym, ap, ◌∙◌, Bool, true, false, not, ◌&&◌, ◌||◌, ℕ, ◌+◌, ◌*◌, List, [], ◌∷◌, map, Option, Some, None, sum_by, inl, inr, arith}
-use Rattle.std.specs.Prelude.{if◌then◌else◌}
+use Rattle.std.proofs.Common.{◌≡◌, refl, ap, ◌∙◌, Bool, true, false, not, ◌&&◌, ℕ, [], ◌∷◌, inl, inr, arith}
 use Rattle.std.specs.List.{list_any, list_all}
 use Rattle.std.proofs.lemmas.Bool.{cases_Bool}
 use Rattle.clause_store.specs.Lits.{lit_true}
 use Rattle.clause_circuits.specs.Cells.{bit}
-use Rattle.clause_formulas.specs.Statements.{Statement, eval, atom, both_statements, no, any_statement, all_statements, all_eval}
+use Rattle.clause_formulas.specs.Statements.{Statement, eval, atom, no}
 use Rattle.clause_formulas.proofs.Words.{eval-both, eval-all_of}
 use Rattle.literal_table.specs.Choices.{Choices, chosen, any_choice}
 use Rattle.literal_table.proofs.Choices.{any-chosen}
-use Rattle.cost_terms.specs.declared.weighted.Weighted.{Weighted}
-use Rattle.cost_terms.specs.Weighed.{weight_said, sum_said}
+use Rattle.cost_terms.specs.Weighed.{sum_said}
 use Rattle.cost_terms.specs.Differ.{filled_said, same_said, differ, can_differ, differ_said, differ_terms}
 use Rattle.cost_terms.proofs.SpreadLaws.{said-cons}
 use Rattle.cost_terms.proofs.PartLaws.{chosen-any, chosen-all, or-false}

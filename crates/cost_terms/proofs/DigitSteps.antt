@@ -1,6 +1,6 @@
 -- The code of digits, step by step.
 use Prim.Native.Nat.{suc, zero}
-use Rattle.std.proofs.Common.{◌≡◌, refl, sym, ap, subst, ◌∙◌, Bool, true, false, ℕ, ◌+◌, ◌*◌, ◌-◌, ◌^◌, ◌<◌, ◌≤◌, List, [], ◌∷◌, ◌++◌, arith, pow-suc, append_assoc, Result, Ok, Err, OnOk, OnErr}
+use Rattle.std.proofs.Common.{◌≡◌, refl, sym, ap, ◌∙◌, ℕ, ◌+◌, ◌*◌, ◌-◌, ◌^◌, ◌<◌, ◌≤◌, List, [], ◌∷◌, ◌++◌, arith, pow-suc, append_assoc, Result, Ok, Err, OnOk}
 use Rattle.std.proofs.Math.Nat.{mul_comm, mul_assoc}
 use Rattle.clause_formulas.specs.Statements.{Statement}
 use Rattle.literal_table.specs.Choices.{Choices, any_choice}

@@ -1,19 +1,19 @@
 -- Terms of the nodes to build, and of the others.
-use Rattle.std.proofs.Common.{◌≡◌, refl, sym, ap, ◌∙◌, Bool, true, false, not, ◌&&◌, ◌||◌, ℕ, ◌+◌, ◌*◌, List, [], ◌∷◌, map, Option, Some, None, sum_by, inl, inr, arith}
+use Rattle.std.proofs.Common.{◌≡◌, refl, ap, ◌∙◌, Bool, true, false, not, ◌&&◌, ◌||◌, ℕ, ◌+◌, ◌*◌, List, [], ◌∷◌, map, inl, inr, arith}
 use Rattle.std.specs.Prelude.{if◌then◌else◌}
-use Rattle.std.specs.Option.{option_to_list}
 use Rattle.std.specs.List.{list_any, list_all}
 use Rattle.std.proofs.lemmas.Bool.{cases_Bool, and_parts}
 use Rattle.clause_store.specs.Lits.{lit_true}
 use Rattle.clause_circuits.specs.Cells.{bit}
-use Rattle.clause_formulas.specs.Statements.{Statement, eval, both_statements, opposite, no, any_statement}
+use Rattle.clause_formulas.specs.Statements.{Statement, eval, opposite, no, any_statement}
 use Rattle.clause_formulas.proofs.Words.{eval-both}
 use Rattle.graph_core.specs.declared.node.Origin.{Origin}
-use Rattle.literal_table.specs.Choices.{Choices, chosen, any_choice}
+use Rattle.literal_table.specs.Choices.{Choices, chosen}
 use Rattle.literal_table.proofs.Choices.{any-chosen}
 use Rattle.cost_terms.specs.declared.weighted.Weighted.{Weighted}
-use Rattle.cost_terms.specs.Weighed.{weight_said, sum_said}
-use Rattle.cost_terms.specs.Parts.{builds, is_of, part_said, only_where, in_part}
+use Rattle.cost_terms.specs.Weighed.{sum_said}
+use Rattle.cost_terms.specs.Parts.{is_of, part_said, only_where, in_part}
+use Rattle.problem.specs.Nodes.{builds}
 use Rattle.cost_terms.proofs.SpreadLaws.{said-cons}
 
 -- some of one element

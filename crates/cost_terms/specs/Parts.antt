@@ -3,12 +3,9 @@ use Rattle.std.specs.Prelude.{Bool, true, false, not, List, [], map, if◌then�
 use Rattle.std.specs.List.{list_any, list_all}
 use Rattle.clause_formulas.specs.Statements.{Statement, no, both_statements}
 use Rattle.graph_core.specs.declared.node.Origin.{Origin}
-use Rattle.graph_core.specs.declared.node.Origin.TheVariants.{Built, External, Installed}
+use Rattle.problem.specs.Nodes.{builds}
 use Rattle.literal_table.specs.Choices.{Choices, any_choice}
 use Rattle.cost_terms.specs.declared.weighted.Weighted.{Weighted}
-
-abbrev pub builds : Origin → Bool
-builds origin = elim origin [ Built ↦ true | External place ↦ false | Installed hash ↦ false ]
 
 -- the origin is that of the nodes to build, or of the others
 abbrev pub is_of : Bool → Origin → Bool

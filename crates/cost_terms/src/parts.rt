@@ -2,7 +2,8 @@
 ghost use Rattle.std.specs.Prelude.{◌≡◌, ◌++◌, map, IfOk, OnOk};
 ghost use Rattle.std.specs.List.{list_any, list_all};
 ghost use Rattle.literal_table.specs.Choices.{any_choice as any_choice_on};
-ghost use Rattle.cost_terms.specs.Parts.{builds, is_of, part_said, only_where, in_part};
+ghost use Rattle.cost_terms.specs.Parts.{is_of, part_said, only_where, in_part};
+ghost use Rattle.problem.specs.Nodes.{builds};
 
 use crate::Weighted;
 use clause_formulas::Formula;

@@ -7,12 +7,12 @@ ghost use Rattle.graph_core.specs.Graphs.{node_of};
 ghost use Rattle.condition_rules.specs.Words.{is_one_text, is_some_and};
 ghost use Rattle.condition_rules.specs.Holds.{governing};
 ghost use Rattle.problem.specs.Problems.{same_compiler};
-ghost use Rattle.graph_rules.specs.Costs.{is_root, missing, stopped};
+ghost use Rattle.graph_rules.specs.Costs.{beside_default, is_root, missing, stopped};
 ghost use Rattle.cost_vector.specs.Terms.{beside, variant_cost, weight_at, differs, edge_differs};
 
 use crate::provider_weight;
 use crate::terms::Attribute;
-use condition_rules::{Paths, governing};
+use condition_rules::{Definitions, Paths, governing};
 use graph_core::{Compiler, Edge, Node};
 use plain_data::Word;
 use problem::{Explored, Problem, same_compiler};
@@ -73,22 +73,22 @@ fn beside(defaults: bool, values: &ValueSet, row: &VariantRow) -> usize
 fn variant_cost(
     alloc: Global,
     defaults: bool,
-    problem: &Problem,
+    definitions: &Definitions,
     graph: &Explored,
-    name: &str,
     variant: &(Word, ValueSet),
 ) -> Result<usize, AllocError>
-    ensures { IfOk result (λ count. count ≡ variant_cost defaults problem.now graph.now name.now
-        variant.now) }
+    ensures { IfOk result (λ count. count ≡ beside_default (beside defaults) variant.now.1
+        (governing definitions.now.0 graph.now definitions.now.1 variant.now.0)) }
 {
-    let world = problem.world();
-    match governing(alloc, &world, graph, name, variant.0.as_str())? {
+    match governing(alloc, definitions, graph, variant.0.as_str())? {
         Some(row) => Ok(beside(defaults, &variant.1, row)),
         None => Ok(0),
     }
 }
 
 /// What all variants of a node cost, by their default values or by the others.
+///
+/// Takes n log n comparisons for n definitions and variants.
 pub(crate) fn over_variants(
     alloc: Global,
     defaults: bool,
@@ -100,9 +100,10 @@ pub(crate) fn over_variants(
     ensures { IfOk result (λ total. total
         ≡ stopped (sum_by (variant_cost defaults problem.now graph.now name.now) variants.now)) }
 {
+    let definitions = Definitions::new(alloc, problem.world(), name)?;
     let mut total: u64 = 0;
     for variant in variants {
-        let count = variant_cost(alloc, defaults, problem, graph, name, variant)?;
+        let count = variant_cost(alloc, defaults, &definitions, graph, variant)?;
         total = total.saturating_add(count as u64);
     }
     Ok(total)

@@ -221,6 +221,7 @@ refuses refusals.OtherRoots = tt
 refuses (refusals.BrokenRule rule node number) = tt
 refuses refusals.CertificateTooLarge = tt
 refuses (refusals.BadCertificate number fault) = tt
+refuses (refusals.InRoot root fault) = tt
 
 -- ---- faults
 

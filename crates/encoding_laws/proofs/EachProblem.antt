@@ -12,9 +12,9 @@ use Rattle.criteria_totals.proofs.TotalLaws.{totals-are}
 use Rattle.graph_core.specs.Graphs.{Text}
 use Rattle.problem.specs.Closure.{IsClosure}
 use Rattle.problem.specs.Limits.{is_within_limits, most_names}
-use Rattle.problem.specs.Problems.{Problem}
-use Rattle.possible_closure.specs.Closures.{closure_of, root_names}
-use Rattle.literal_table.specs.Tables.{Table}
+use Rattle.problem.specs.Problems.{Problem, root_names}
+use Rattle.possible_closure.specs.Closures.{closure_of}
+use Rattle.literal_table.specs.Tables.{Table, table_names}
 use Rattle.problem_formulas.specs.Given.{no_place}
 use Rattle.problem_formulas.specs.OfGraphEncoding.Formulas.{MetBelow}
 use Rattle.cost_terms.specs.declared.weighted.Weighted.{Weighted}
@@ -29,7 +29,7 @@ use Rattle.ranked_costs.specs.OfTablePlan.Kept.{have_values}
 use Rattle.ranked_costs.specs.OfValidModels.Closures.{ClosureStructured}
 use Rattle.ranked_costs.specs.Ranked.{ClosureCosts, ClosureInRange, ClosureSmall, ClosureSpells}
 use Rattle.ranked_costs.specs.Small.{are_small}
-use Rattle.ranked_costs.specs.Walks.{post_order, walked_names}
+use Rattle.ranked_costs.specs.Walks.{post_order}
 use Rattle.ranked_costs.proofs.Lists.{items-below}
 use Rattle.ranked_costs.proofs.SmallSums.{all-small}
 use Rattle.problem_encoding.specs.Built.{encoding_of, order_in, rule_clauses, rule_values, table_of}
@@ -40,7 +40,7 @@ use Rattle.problem_encoding.proofs.Whole.{whole}
 module _ (problem : Problem) (closure : IsClosure problem (closure_of problem)) (has : have_values problem (closure_of problem) ≡ true)
     (limits : is_within_limits problem ≡ true) (few : length (closure_of problem) ≤ most_names)
     (range : ClosureInRange) (small : ClosureSmall) (ranks : ClosureCosts) (spells : ClosureSpells) (structured : ClosureStructured)
-    (each : (t : Table) (roots : List Text) → IsPermutation (walked_names t) (post_order t roots)) where
+    (each : (t : Table) (roots : List Text) → IsPermutation (table_names t) (post_order t roots)) where
   abbrev lists : List (List Weighted)
   lists = terms_for problem (table_of problem) (rule_values problem) (order_in problem (table_of problem))
 

@@ -13,13 +13,13 @@ use Rattle.clause_formulas.specs.Built.{assert_in, define_all_in, demand_all_in}
 use Rattle.level_encoding.specs.Asserted.{assert_all, levels_on, with_vars}
 use Rattle.level_encoding.specs.Encoding.{paths_of}
 use Rattle.graph_core.specs.Graphs.{Text, Content}
-use Rattle.problem.specs.Problems.{Problem}
+use Rattle.problem.specs.Problems.{Problem, root_names}
 use Rattle.problem.specs.Demands.{demands}
 use Rattle.problem.specs.declared.demand.Demand.{Demand}
 use Rattle.literal_table.specs.Tables.{Table, table_names}
 use Rattle.graph_levels.specs.Stages.{Decodes}
 use Rattle.graph_levels.specs.Edges.{edges_on}
-use Rattle.graph_levels.specs.Levels.{input_for, root_names, places_of, PathTable, path_table}
+use Rattle.graph_levels.specs.Levels.{input_for, places_of, PathTable, path_table}
 use Rattle.graph_encoding.specs.Formulas.{Formulas, PathFormulas, PathsBelow, IsRightTable, AreRightFormulas}
 use Rattle.graph_encoding.specs.Encodings.{base, levels_made, rules_on, encode_on, told_in, IsValid}
 use Rattle.graph_encoding.proofs.Joining.{encoded}

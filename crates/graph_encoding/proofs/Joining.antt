@@ -27,7 +27,7 @@ use Rattle.level_encoding.proofs.AssertedLaws.{assert_all-says}
 use Rattle.level_encoding.proofs.Told.{keeps as levels-keep}
 use Rattle.graph_core.specs.Graphs.{Text, Content, IsGraph}
 use Rattle.problem.specs.Nodes.{IsWellFormed}
-use Rattle.problem.specs.Problems.{Problem}
+use Rattle.problem.specs.Problems.{Problem, root_names}
 use Rattle.problem.specs.Demands.{demands}
 use Rattle.problem.specs.declared.demand.Demand.{Demand}
 use Rattle.graph_rules.specs.Valid.{keeps, keeps_all, keeps_demand, structure_rules, valid_for}
@@ -40,7 +40,7 @@ use Rattle.graph_levels.specs.Rules.{Says, Holds, FitsGates, ValuesSay, asked_am
 use Rattle.graph_levels.proofs.Growing.{added, joined, restated, named, decodes, local-le, local-both}
 use Rattle.graph_levels.proofs.Adapters.{asserted, defined, demanded, begun}
 use Rattle.graph_levels.specs.Edges.{EdgesSay, EdgesBelow, edges_on}
-use Rattle.graph_levels.specs.Levels.{SpellsEdges, AGraph, KeepsLevelRules, PathsSay, input_for, places_of, path_said, root_names}
+use Rattle.graph_levels.specs.Levels.{SpellsEdges, AGraph, KeepsLevelRules, PathsSay, input_for, places_of, path_said}
 use Rattle.graph_levels.proofs.EdgeLaws.{edges-are, edge-stage}
 use Rattle.graph_levels.proofs.InputLaws.{input-right, lits-below}
 use Rattle.graph_levels.proofs.LevelStage.{level-stage, path-below}

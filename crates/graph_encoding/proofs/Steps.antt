@@ -18,14 +18,14 @@ use Rattle.clause_formulas.proofs.Words.{value-below}
 use Rattle.level_encoding.specs.Asserted.{assert_all, levels_on}
 use Rattle.level_encoding.specs.Encoding.{paths_of}
 use Rattle.graph_core.specs.Graphs.{Text}
-use Rattle.problem.specs.Problems.{Problem}
+use Rattle.problem.specs.Problems.{Problem, root_names}
 use Rattle.problem.specs.Demands.{demands}
 use Rattle.problem.specs.declared.demand.Demand.{Demand}
 use Rattle.problem.specs.declared.demand.Demand.TheVariants as demand
 use Rattle.literal_table.specs.Tables.{Table, table_names}
 use Rattle.literal_table.specs.declared.block.EdgeLits.{EdgeLits}
 use Rattle.graph_levels.specs.Edges.{edges_on, EdgesBelow}
-use Rattle.graph_levels.specs.Levels.{input_for, root_names, places_of, PresentBelow, PathTable, path_table}
+use Rattle.graph_levels.specs.Levels.{input_for, places_of, PresentBelow, PathTable, path_table}
 use Rattle.graph_levels.proofs.EdgeLaws.{edges-are, Told}
 use Rattle.graph_levels.proofs.InputLaws.{lits-below}
 use Rattle.graph_encoding.specs.Formulas.{Formulas, PathFormulas, PathsBelow}

@@ -24,7 +24,8 @@ pub either-way : (a b : Text) → bytes_eq a b ≡ bytes_eq b a
 either-way a b = nat_list_eq_equiv.symm a b
 
 -- a test of one and a test of some
-swapped : {T U : Type 0} (test : T → U → Bool) (o : Option T) (xs : List U) → list_any (λ x. is_some_and o (λ y. test y x)) xs ≡ is_some_and o (λ y. list_any (test y) xs)
+swapped : {T U : Type 0} (test : T → U → Bool) (o : Option T) (xs : List U)
+    → list_any (λ x. is_some_and o (λ y. test y x)) xs ≡ is_some_and o (λ y. list_any (test y) xs)
 swapped test None [] = refl
 swapped test None (x ∷ xs) = swapped test None xs
 swapped test (Some y) xs = refl
@@ -62,14 +63,17 @@ module _ (problem : Problem) (graph : Content) where
     pub compiler-kept : in_graph (compiler_rule problem name) ≡ keeps_compiler problem node
     unfolding keeps_compiler
     compiler-kept =
-        some-kept (is_in graph) (entry_rule problem name) (λ entry. is_some_and node.compiler (λ c. same_compiler entry.compiler c && supports entry node)) entry-kept problem.settings.compilers
+        some-kept (is_in graph) (entry_rule problem name)
+        (λ entry. is_some_and node.compiler (λ c. same_compiler entry.compiler c && supports entry node)) entry-kept
+        problem.settings.compilers
         ∙ swapped (λ c entry. same_compiler entry.compiler c && supports entry node) node.compiler problem.settings.compilers
       where
         and-some : {T : Type 0} (o : Option T) (test : T → Bool) (b : Bool) → (is_some_and o test && b) ≡ is_some_and o (λ x. test x && b)
         and-some None test b = refl
         and-some (Some x) test b = refl
 
-        entry-kept : (entry : CompilerEntry) → in_graph (entry_rule problem name entry) ≡ is_some_and node.compiler (λ c. same_compiler entry.compiler c && supports entry node)
+        entry-kept : (entry : CompilerEntry) → in_graph (entry_rule problem name entry) ≡ is_some_and node.compiler
+            (λ c. same_compiler entry.compiler c && supports entry node)
         entry-kept entry = rw (
           has (has_compiler (λ c. is_some_and c (same_compiler entry.compiler))),
           written-kept (is_in graph) _ (λ names. is_one_text names node.os) (λ names. has (has_os (is_one_text names))) entry.os,
@@ -87,8 +91,11 @@ module _ (problem : Problem) (graph : Content) where
     unfolding keeps_reachable
     reachable-kept =
         some-kept (is_in graph) _ (λ spec. is_some_and spec.top.name (λ root. bytes_eq root name || reaches_in graph root name))
-        (λ spec. named-kept (is_in graph) _ (λ root. bytes_eq root name || reaches_in graph root name) (λ root. rw (given-kept (is_in graph) (bytes_eq root name), or-false (reaches_in graph root name)) refl) spec.top.name) problem.roots
-        ∙ ap (λ n. list_any (λ spec. is_some_and spec.top.name (λ root. bytes_eq root n || reaches_in graph root n)) problem.roots) (sym (named-so graph name node here))
+        (λ spec. named-kept (is_in graph) _ (λ root. bytes_eq root name || reaches_in graph root name)
+        (λ root. rw (given-kept (is_in graph) (bytes_eq root name), or-false (reaches_in graph root name)) refl) spec.top.name)
+        problem.roots
+        ∙ ap (λ n. list_any (λ spec. is_some_and spec.top.name (λ root. bytes_eq root n || reaches_in graph root n)) problem.roots)
+        (sym (named-so graph name node here))
 
   -- a provider may provide the virtual
   pub provider-kept : (p : Text × Text) → in_graph (provider_rule problem p) ≡ keeps_provider problem graph p

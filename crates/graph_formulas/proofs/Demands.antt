@@ -43,12 +43,17 @@ module _ (problem : Problem) (packages : Text → List Text) (graph : Content)
       each-kept (is_true (world_of problem) graph) rule test same (filter (λ row. number_of row == number) rows)
       ∙ all-filter test (λ row. number_of row == number) rows
 
-  directive-kept : LeadsToNodes graph → (number : ℕ) (node : Node) → holds_here (directive_rule problem packages number node.name) ≡ keeps_directive problem graph number node
+  directive-kept : LeadsToNodes graph → (number : ℕ) (node : Node)
+      → holds_here (directive_rule problem packages number node.name) ≡ keeps_directive problem graph number node
   directive-kept leads number node = rw (
-    numbered number (λ row. row.number) (λ row. edge_rule problem packages node.name row and constraint_rule problem packages node.name row) (λ row. keeps_edge problem graph node row && keeps_constraint problem graph node row)
-        (λ row. rw (edge-kept problem packages graph listed leads node row, constraint-kept problem packages graph listed node row) refl) (depends_at problem node.name),
-    numbered number (λ row. row.number) (conflict_rule problem packages node.name) (keeps_conflict problem graph node) (conflict-kept problem packages graph listed node) (conflicts_at problem node.name),
-    numbered number (λ row. row.number) (requirement_rule problem packages node.name) (keeps_requirement problem graph node) (requirement-kept problem packages graph listed node) (requirements_at problem node.name),
+    numbered number (λ row. row.number) (λ row. edge_rule problem packages node.name row and constraint_rule problem packages node.name row)
+        (λ row. keeps_edge problem graph node row && keeps_constraint problem graph node row)
+        (λ row. rw (edge-kept problem packages graph listed leads node row, constraint-kept problem packages graph listed node row) refl)
+        (depends_at problem node.name),
+    numbered number (λ row. row.number) (conflict_rule problem packages node.name) (keeps_conflict problem graph node)
+        (conflict-kept problem packages graph listed node) (conflicts_at problem node.name),
+    numbered number (λ row. row.number) (requirement_rule problem packages node.name) (keeps_requirement problem graph node)
+        (requirement-kept problem packages graph listed node) (requirements_at problem node.name),
   ) refl
 
   setting-kept : (place : ℕ) (node : Node) → holds_here (required_rule problem packages place node.name)
@@ -58,21 +63,25 @@ module _ (problem : Problem) (packages : Text → List Text) (graph : Content)
       (requirement-kept problem packages graph listed node) (slice_get (required_at problem node.name) place)
 
   -- the rule of a demand holds where it is kept
-  pub demand-kept : LeadsToNodes graph → (may_be : Text → Bool) → ((name : Text) → may_be name ≡ false → node_of graph name ≡ None) → (d : Demand)
+  pub demand-kept : LeadsToNodes graph → (may_be : Text → Bool) → ((name : Text) → may_be name ≡ false → node_of graph name ≡ None)
+      → (d : Demand)
       → holds_here (demand_rule problem packages may_be d) ≡ keeps_demand problem graph d
   unfolding keeps_demand
   demand-kept leads may_be nowhere_else (demand.Root place) =
-      written-kept (is_true (world_of problem) graph) (λ spec. known_rule (root_rule problem packages spec)) (keeps_root problem graph) (root-kept problem packages graph listed) (slice_get problem.roots place)
+      written-kept (is_true (world_of problem) graph) (λ spec. known_rule (root_rule problem packages spec)) (keeps_root problem graph)
+      (root-kept problem packages graph listed) (slice_get problem.roots place)
   demand-kept leads may_be nowhere_else (demand.Directive name number) = elim (cases_Bool (may_be name)) [
     | inl there ↦ rw there (
         built-kept problem packages graph listed name (directive_rule problem packages number name) (keeps_directive problem graph number)
-        (λ node here. ap (λ n. holds_here (directive_rule problem packages number n)) (sym (named-so graph name node here)) ∙ directive-kept leads number node))
+        (λ node here. ap (λ n. holds_here (directive_rule problem packages number n)) (sym (named-so graph name node here))
+        ∙ directive-kept leads number node))
     | inr absent ↦ rw (absent, nowhere_else name absent) refl
   ]
   demand-kept leads may_be nowhere_else (demand.Setting name place) = elim (cases_Bool (may_be name)) [
     | inl there ↦ rw there (
         there-kept problem packages graph listed name (required_rule problem packages place name)
         (λ node. if_written (slice_get (required_at problem node.name) place) (keeps_requirement problem graph node))
-        (λ node here. ap (λ n. holds_here (required_rule problem packages place n)) (sym (named-so graph name node here)) ∙ setting-kept place node))
+        (λ node here. ap (λ n. holds_here (required_rule problem packages place n)) (sym (named-so graph name node here))
+        ∙ setting-kept place node))
     | inr absent ↦ rw (absent, nowhere_else name absent) refl
   ]

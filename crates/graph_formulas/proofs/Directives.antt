@@ -42,7 +42,8 @@ abbrev pub LeadsToNodes : Content → Type 0
 LeadsToNodes graph = (parent child : Text) → node_of graph child ≡ None → edge_of graph parent child ≡ None
 
 -- a test of what one gives after the other
-pub then-and : {T U : Type 0} (f : T → Option U) (test : U → Bool) (o : Option T) → is_some_and (option_and_then f o) test ≡ is_some_and o (λ x. is_some_and (f x) test)
+pub then-and : {T U : Type 0} (f : T → Option U) (test : U → Bool) (o : Option T)
+    → is_some_and (option_and_then f o) test ≡ is_some_and o (λ x. is_some_and (f x) test)
 then-and f test None = refl
 then-and f test (Some x) = refl
 
@@ -60,17 +61,21 @@ module _ (problem : Problem) (packages : Text → List Text) (graph : Content)
   root-kept spec = named-kept (is_in graph) _ _ (λ name. holds-kept (world_of problem) graph packages listed name spec) spec.top.name
 
   -- of a conflict
-  pub conflict-kept : (node : Node) (row : ConflictRow) → holds_true (conflict_rule problem packages node.name row) ≡ keeps_conflict problem graph node row
+  pub conflict-kept : (node : Node) (row : ConflictRow)
+      → holds_true (conflict_rule problem packages node.name row) ≡ keeps_conflict problem graph node row
   unfolding keeps_conflict
   conflict-kept node row = rw (holds-kept (world_of problem) graph packages listed node.name row.spec) refl
 
-  suits-asked : (row : DependRow) → in_graph (suits_asked problem packages row) ≡ is_some_and row.part.name (λ name. is_some_and (asked_node (world_of problem) graph name) (suits (world_of problem) row.part name))
+  suits-asked : (row : DependRow) → in_graph (suits_asked problem packages row) ≡ is_some_and row.part.name
+      (λ name. is_some_and (asked_node (world_of problem) graph name) (suits (world_of problem) row.part name))
   suits-asked row =
       named-kept (is_in graph) _ (λ name. is_some_and (asked_node (world_of problem) graph name) (suits (world_of problem) row.part name))
-      (λ asked. asked-kept (world_of problem) graph packages listed asked (suits_rule (world_of problem) row.part asked) (suits (world_of problem) row.part asked) (λ n. suits-kept (world_of problem) graph n row.part asked)) row.part.name
+      (λ asked. asked-kept (world_of problem) graph packages listed asked (suits_rule (world_of problem) row.part asked)
+      (suits (world_of problem) row.part asked) (λ n. suits-kept (world_of problem) graph n row.part asked)) row.part.name
 
   -- of what a dependency asks of its child
-  pub constraint-kept : (node : Node) (row : DependRow) → holds_true (constraint_rule problem packages node.name row) ≡ keeps_constraint problem graph node row
+  pub constraint-kept : (node : Node) (row : DependRow)
+      → holds_true (constraint_rule problem packages node.name row) ≡ keeps_constraint problem graph node row
   unfolding keeps_constraint
   constraint-kept node row = rw (suits-asked row) (not-or (all_hold (world_of problem) row.when graph node.name) _)
 
@@ -96,7 +101,8 @@ module _ (problem : Problem) (packages : Text → List Text) (graph : Content)
       alone (Some e) = and-true (covers e.kinds row.kinds)
 
       either : (b : Bool)
-          → in_graph (if b then fact (has_edge parent child row.kinds) and fact (has_virtual parent child asked) else fact (has_edge parent child row.kinds))
+          → in_graph (if b then fact (has_edge parent child row.kinds) and fact (has_virtual parent child asked) else fact
+          (has_edge parent child row.kinds))
           ≡ is_some_and (edge_of graph parent child) (λ e. covers e.kinds row.kinds && implies b (is_one_text e.virtuals asked))
       either true = both (edge_of graph parent child)
       either false = alone (edge_of graph parent child)
@@ -114,29 +120,35 @@ module _ (problem : Problem) (packages : Text → List Text) (graph : Content)
       ≡ is_some_and (option_and_then (asked_node (world_of problem) graph) row.part.name)
       (λ child. is_some_and (edge_of graph node.name child.name) (answers problem row))
   edge-to leads node row =
-      named-kept (is_in graph) _ _ (λ asked. asked-kept (world_of problem) graph packages listed asked (answer_rule problem packages node.name row asked) _
+      named-kept (is_in graph) _ _ (λ asked. asked-kept (world_of problem) graph packages listed asked
+      (answer_rule problem packages node.name row asked) _
       (edge-child leads node.name row asked)) row.part.name
       ∙ by_name row.part.name refl
     where
       by_name : (o : Option Text) → row.part.name ≡ o
-          → is_some_and o (λ asked. is_some_and (asked_node (world_of problem) graph asked) (λ c. is_some_and (edge_of graph node.name c.name) (answers_as row asked)))
-          ≡ is_some_and (option_and_then (asked_node (world_of problem) graph) o) (λ child. is_some_and (edge_of graph node.name child.name) (answers problem row))
+          → is_some_and o (λ asked. is_some_and (asked_node (world_of problem) graph asked)
+          (λ c. is_some_and (edge_of graph node.name c.name) (answers_as row asked)))
+          ≡ is_some_and (option_and_then (asked_node (world_of problem) graph) o)
+          (λ child. is_some_and (edge_of graph node.name child.name) (answers problem row))
       by_name None is = refl
       by_name (Some asked) is = ap (λ (named : Option Text). is_some_and (asked_node (world_of problem) graph asked)
           (λ c. is_some_and (edge_of graph node.name c.name) (λ e. covers e.kinds row.kinds
           && if_written named (λ name. implies (is_virtual problem.recipes name) (is_one_text e.virtuals name))))) (sym is)
 
   -- of its edge
-  pub edge-kept : LeadsToNodes graph → (node : Node) (row : DependRow) → holds_true (edge_rule problem packages node.name row) ≡ keeps_edge problem graph node row
+  pub edge-kept : LeadsToNodes graph → (node : Node) (row : DependRow)
+      → holds_true (edge_rule problem packages node.name row) ≡ keeps_edge problem graph node row
   unfolding keeps_edge
   edge-kept leads node row = rw (edge-to leads node row) (not-or (all_hold (world_of problem) row.when graph node.name) _)
 
   -- of a requirement
-  pub requirement-kept : (node : Node) (row : RequireRow) → holds_true (requirement_rule problem packages node.name row) ≡ keeps_requirement problem graph node row
+  pub requirement-kept : (node : Node) (row : RequireRow)
+      → holds_true (requirement_rule problem packages node.name row) ≡ keeps_requirement problem graph node row
   unfolding keeps_requirement
   requirement-kept node row = rw (choice-kept) (not-or (all_hold (world_of problem) row.when graph node.name) _)
     where
-      each-spec : (spec : Spec) → holds_true (known_rule (holds_rule (world_of problem) packages node.name spec)) ≡ holds (world_of problem) spec graph node.name
+      each-spec : (spec : Spec) → holds_true (known_rule (holds_rule (world_of problem) packages node.name spec)) ≡ holds (world_of problem)
+          spec graph node.name
       each-spec spec = holds-kept (world_of problem) graph packages listed node.name spec
 
       choice-kept : holds_true (choice_rule problem packages node.name row) ≡ has_choice problem graph node row
@@ -150,12 +162,14 @@ module _ (problem : Problem) (packages : Text → List Text) (graph : Content)
       → ((node : Node) → node_of graph name ≡ Some node → holds_true rule ≡ test node)
       → holds_true (where_built name rule) ≡ if_written (node_of graph name) (λ node. implies (is_built node) (test node))
   built-kept name rule test same =
-      by_node graph name (λ o. (not (is_some_and o is_built) || holds_true rule) ≡ if_written o (λ node. implies (is_built node) (test node)))
+      by_node graph name (λ o. (not (is_some_and o is_built) || holds_true rule)
+      ≡ if_written o (λ node. implies (is_built node) (test node)))
       (λ node here. not-or (is_built node) (holds_true rule) ∙ ap (implies (is_built node)) (same node here))
       (λ absent. refl)
 
   -- and of a node that is there
-  pub there-kept : (name : Text) (rule : Proposition Term) (test : Node → Bool) → ((node : Node) → node_of graph name ≡ Some node → holds_true rule ≡ test node)
+  pub there-kept : (name : Text) (rule : Proposition Term) (test : Node → Bool)
+      → ((node : Node) → node_of graph name ≡ Some node → holds_true rule ≡ test node)
       → holds_true (where_there name rule) ≡ if_written (node_of graph name) test
   there-kept name rule test same =
       by_node graph name (λ o. (not (is_some_and o (λ node. true)) || holds_true rule) ≡ if_written o test)

@@ -1,16 +1,16 @@
--- The rules of edges that none asks for, and of providers that none uses, hold where these are kept.
-use Rattle.std.proofs.Common.{◌≡◌, refl, sym, ap, subst, ◌∙◌, Bool, true, false, not, ◌||◌, ◌&&◌, List, [], ◌∷◌, filter, Option, Some, None, inl, inr}
-use Rattle.std.specs.Prelude.{is_some, if◌then◌else◌}
+-- The rules of edges that none asks for hold where these are kept.
+use Rattle.std.proofs.Common.{◌≡◌, refl, sym, ap, subst, ◌∙◌, Bool, true, false, not, ◌||◌, ◌&&◌, List, filter, Option, Some, None, inl, inr}
+use Rattle.std.specs.Prelude.{if◌then◌else◌}
 use Rattle.std.specs.List.{list_any, list_all}
 use Rattle.std.specs.Option.{option_and_then}
 use Rattle.std.specs.Str.{bytes_eq}
 use Rattle.std.proofs.lemmas.Bool.{cases_Bool, and_parts}
 use Rattle.virtuals.specs.Virtuals.{is_virtual}
-use Rattle.clause_formulas.specs.Rules.{Proposition, fact, keeps_rule}
+use Rattle.clause_formulas.specs.Rules.{fact, keeps_rule}
 use Rattle.graph_core.specs.Graphs.{Text}
 use Rattle.condition_rules.specs.Words.{is_one_text, implies, if_written, is_some_and}
 use Rattle.graph_core.specs.Graphs.{Content, node_of, provider_of, edge_of}
-use Rattle.problem.specs.Nodes.{covers, is_built}
+use Rattle.problem.specs.Nodes.{covers}
 use Rattle.graph_core.specs.declared.node.Node.{Node}
 use Rattle.graph_core.specs.declared.node.Edge.{Edge}
 use Rattle.graph_core.specs.declared.node.Kinds.{Kinds}
@@ -25,56 +25,10 @@ use Rattle.graph_formulas.specs.Lists.{settled_test, one_keeps, some}
 use Rattle.literal_table.proofs.Spelling.{named-so}
 use Rattle.graph_formulas.proofs.Rules.{given-kept, each-kept, some-kept, named-kept}
 use Rattle.graph_formulas.proofs.Kept.{by_node}
-use Rattle.graph_formulas.specs.Terms.{Term, is_true, met_rule}
-use Rattle.graph_formulas.specs.Edges.{asked_child, no_kinds, of_provider, asks_rule, may_ask, kind_rule, virtual_rule, extra_edge_rule}
+use Rattle.graph_formulas.specs.Terms.{is_true, met_rule}
+use Rattle.graph_formulas.specs.Edges.{asked_child, no_kinds, asks_rule, may_ask, kind_rule, virtual_rule, extra_edge_rule}
 use Rattle.graph_formulas.proofs.Directives.{LeadsToNodes, not-or, then-and}
-
-any-filter : {T : Type 0} (test f : T → Bool) (xs : List T) → list_any test (filter f xs) ≡ list_any (λ x. test x && f x) xs
-any-filter test f [] = refl
-any-filter test f (x ∷ xs) = elim (cases_Bool (f x)) [
-  | inl t ↦ rw (t, any-filter test f xs) (ap (λ b. b || list_any (λ x. test x && f x) xs) (and-true (test x)))
-  | inr n ↦ rw (n, any-filter test f xs) (ap (λ b. b || list_any (λ x. test x && f x) xs) (and-false (test x)))
-]
-  where
-    and-true : (a : Bool) → a ≡ (a && true)
-    and-true true = refl
-    and-true false = refl
-
-    and-false : (a : Bool) → false ≡ (a && false)
-    and-false true = refl
-    and-false false = refl
-
-any-same : {T : Type 0} (f g : T → Bool) → ((x : T) → f x ≡ g x) → (xs : List T) → list_any f xs ≡ list_any g xs
-any-same f g same [] = refl
-any-same f g same (x ∷ xs) = rw (same x, any-same f g same xs) refl
-
-any-left : {T : Type 0} (f g : T → Bool) (xs : List T) → list_any (λ x. f x && g x) xs ≡ true → list_any f xs ≡ true
-any-left f g [] e = e
-any-left f g (x ∷ xs) e = any-left-cases (f x) (g x) (any-left f g xs) e
-  where
-    any-left-cases : (a b : Bool) → (list_any (λ x. f x && g x) xs ≡ true → list_any f xs ≡ true)
-        → ((a && b) || list_any (λ x. f x && g x) xs) ≡ true → (a || list_any f xs) ≡ true
-    any-left-cases true b rest h = refl
-    any-left-cases false b rest h = rest h
-
--- what a test passes that a weaker one passes first
-pub any-narrowed : {T : Type 0} (test f : T → Bool) → ((x : T) → test x ≡ true → f x ≡ true) → (xs : List T)
-    → list_any test (filter f xs) ≡ list_any test xs
-any-narrowed test f weaker [] = refl
-any-narrowed test f weaker (x ∷ xs) = elim (cases_Bool (f x)) [
-  | inl t ↦ rw (t, any-narrowed test f weaker xs) refl
-  | inr n ↦ rw (n, any-narrowed test f weaker xs) (ap (λ b. b || list_any test xs) (sym (fails (test x) (weaker x) n)))
-]
-  where
-    fails : (b : Bool) → (b ≡ true → f x ≡ true) → f x ≡ false → b ≡ false
-    fails true k n = sym (k refl) ∙ n
-    fails false k n = refl
-
-and-swap : (a b : Bool) → (a && b) ≡ (b && a)
-and-swap true true = refl
-and-swap true false = refl
-and-swap false true = refl
-and-swap false false = refl
+use Rattle.graph_formulas.proofs.ListTests.{any-filter, any-same, any-and}
 
 -- who is asked may be asked
 module _ (problem : Problem) (packages : Text → List Text) (graph : Content)
@@ -90,25 +44,21 @@ module _ (problem : Problem) (packages : Text → List Text) (graph : Content)
   one-asked a true e = provided (provider_of graph a) (listed a) e
     where
       provided : (o : Option Text) → ((p : Text) → o ≡ Some p → is_one_text (packages a) p ≡ true)
-          → is_some_and (option_and_then (node_of graph) o) (λ asked. bytes_eq asked.name child) ≡ true → is_one_text (packages a) child ≡ true
+          → is_some_and (option_and_then (node_of graph) o) (λ asked. bytes_eq asked.name child) ≡ true
+          → is_one_text (packages a) child ≡ true
       provided None has h = cc
       provided (Some p) has h = subst (λ n. is_one_text (packages a) n ≡ true) (bytes_eq-same p child (node-named p h)) (has p refl)
 
   some-asked : (o : Option Text) → is_some_and (option_and_then (asked_node (world_of problem) graph) o)
       (λ asked. bytes_eq asked.name child) ≡ true
-      → is_some_and o (λ asked. if is_virtual problem.recipes asked then is_one_text (packages asked) child else bytes_eq asked child) ≡ true
+      → is_some_and o (λ asked. if is_virtual problem.recipes asked then is_one_text (packages asked) child else bytes_eq asked child)
+      ≡ true
   unfolding asked_node
   some-asked None e = e
   some-asked (Some a) e = one-asked a (is_virtual problem.recipes a) e
 
   asks-may : (node : Node) (row : DependRow) → asks problem graph node child row ≡ true → may_ask problem packages child row ≡ true
   asks-may node row e = some-asked row.part.name (and_parts _ _ e).1
-
--- a test of all under what does not depend on them
-any-and : {T : Type 0} (b : Bool) (test : T → Bool) (xs : List T) → list_any (λ x. b && test x) xs ≡ (b && list_any test xs)
-any-and true test xs = refl
-any-and false test [] = refl
-any-and false test (x ∷ xs) = any-and false test xs
 
 module _ (problem : Problem) (packages : Text → List Text) (graph : Content)
     (listed : (virtual p : Text) → provider_of graph virtual ≡ Some p → is_one_text (packages virtual) p ≡ true)
@@ -224,7 +174,8 @@ module _ (problem : Problem) (packages : Text → List Text) (graph : Content)
       some-kept (is_true (world_of problem) graph) (λ row. met_rule name row.when) holds_row (λ row. refl)
       (filter (names_virtual problem virtual) (depends_at problem name))
       ∙ any-filter holds_row (names_virtual problem virtual) (depends_at problem name))
-      ∙ sym (any-and (is_in graph (provides_as virtual child)) (λ row. holds_row row && names_virtual problem virtual row) (depends_at problem name))
+      ∙ sym (any-and (is_in graph (provides_as virtual child)) (λ row. holds_row row && names_virtual problem virtual row)
+      (depends_at problem name))
       ∙ any-same (λ row. is_in graph (provides_as virtual child) && (holds_row row && names_virtual problem virtual row))
       (λ row. names_virtual problem virtual row && asks problem graph node child row) pointwise_same (depends_at problem name)
       ∙ ap (λ n. list_any (λ row. names_virtual problem virtual row && asks problem graph node child row) (depends_at problem n))
@@ -245,7 +196,8 @@ module _ (problem : Problem) (packages : Text → List Text) (graph : Content)
       pointwise_same : (row : DependRow) → (is_in graph (provides_as virtual child) && (holds_row row && names_virtual problem virtual row))
           ≡ (names_virtual problem virtual row && asks problem graph node child row)
       pointwise_same row = elim (cases_Bool (names_virtual problem virtual row)) [
-        | inl on ↦ rw (on, asks-virtual child c child_here virtual row on) (turned (is_in graph (provides_as virtual child)) (holds_row row))
+        | inl on ↦ rw (on, asks-virtual child c child_here virtual row on)
+            (turned (is_in graph (provides_as virtual child)) (holds_row row))
         | inr off ↦ rw off (never (is_in graph (provides_as virtual child)) (holds_row row))
       ]
 
@@ -269,7 +221,8 @@ module _ (problem : Problem) (packages : Text → List Text) (graph : Content)
   pub extra_edge-kept : LeadsToNodes graph → (virtuals : List Text) (child : Text)
       → keeps_rule (is_true (world_of problem) graph) (extra_edge_rule problem packages virtuals name child)
       ≡ (if_written (edge_of graph name child) (λ e. covers (asked_kinds (asking problem graph node child)) e.kinds)
-      && list_all (λ q. implies (is_one_text (virtuals_in (edge_of graph name child)) q) (is_asked_virtual problem graph node child q)) virtuals)
+      && list_all (λ q. implies (is_one_text (virtuals_in (edge_of graph name child)) q) (is_asked_virtual problem graph node child q))
+      virtuals)
   extra_edge-kept leads virtuals child = rw (
     kind-kept leads (record no_kinds { build = true }) (λ k. k.build) child (λ k. ands k.build),
     kind-kept leads (record no_kinds { link = true }) (λ k. k.link) child (λ k. and-true k.link),
@@ -277,7 +230,8 @@ module _ (problem : Problem) (packages : Text → List Text) (graph : Content)
     each-kept (is_true (world_of problem) graph) (virtual_rule problem packages name child)
         (λ q. implies (is_one_text (virtuals_in (edge_of graph name child)) q) (is_asked_virtual problem graph node child q))
         (virtual-kept leads child) virtuals,
-  ) (ap (λ b. b && list_all (λ q. implies (is_one_text (virtuals_in (edge_of graph name child)) q) (is_asked_virtual problem graph node child q)) virtuals)
+  ) (ap (λ b. b && list_all (λ q. implies (is_one_text (virtuals_in (edge_of graph name child)) q)
+      (is_asked_virtual problem graph node child q)) virtuals)
       (extra_edge-kept-cases (edge_of graph name child)))
     where
       and-true : (a : Bool) → (a && true) ≡ a
@@ -295,68 +249,3 @@ module _ (problem : Problem) (packages : Text → List Text) (graph : Content)
           ≡ if_written o (λ e. covers (asked_kinds (asking problem graph node child)) e.kinds)
       extra_edge-kept-cases None = refl
       extra_edge-kept-cases (Some e) = refl
-
--- of a list of names, the one that is this
-all-picked : (f : Text → Bool) (p : Text) (names : List Text)
-    → list_all (λ n. not (bytes_eq p n) || f n) names ≡ (not (is_one_text names p) || f p)
-all-picked f p [] = refl
-all-picked f p (n ∷ names) = elim (cases_Bool (bytes_eq p n)) [
-  | inl same ↦ rw (same, all-picked f p names, ← bytes_eq-same p n same) (absorb (f p) (is_one_text names p))
-  | inr other ↦ rw (other, all-picked f p names) refl
-]
-  where
-    absorb : (a b : Bool) → (a && (not b || a)) ≡ a
-    absorb true true = refl
-    absorb true false = refl
-    absorb false b = refl
-
--- nothing is asked of the elements
-pub all-true : {T : Type 0} (xs : List T) → list_all (λ x. true) xs ≡ true
-all-true [] = refl
-all-true (x ∷ xs) = all-true xs
-
-pub of-provider-kept : (problem : Problem) (packages : Text → List Text) (graph : Content)
-    → ((virtual p : Text) → provider_of graph virtual ≡ Some p → is_one_text (packages virtual) p ≡ true)
-    → (rule : Text × Text → Proposition Term) (test : Text × Text → Bool)
-    → ((p : Text × Text) → keeps_rule (is_true (world_of problem) graph) (rule p) ≡ test p)
-    → (virtual : Text) → keeps_rule (is_true (world_of problem) graph) (of_provider packages rule virtual)
-    ≡ if_written (provider_of graph virtual) (λ p. test (virtual, p))
-of-provider-kept problem packages graph listed rule test same virtual =
-    each-kept (is_true (world_of problem) graph) _ (λ p. not (is_some_and (provider_of graph virtual) (λ q. bytes_eq q p))
-    || test (virtual, p)) (λ p. ap (λ b. not (is_some_and (provider_of graph virtual) (λ q. bytes_eq q p)) || b) (same (virtual, p)))
-    (packages virtual)
-    ∙ of-provider-kept-cases (provider_of graph virtual) (listed virtual)
-  where
-    of-provider-kept-cases : (o : Option Text) → ((p : Text) → o ≡ Some p → is_one_text (packages virtual) p ≡ true)
-        → list_all (λ p. not (is_some_and o (λ q. bytes_eq q p)) || test (virtual, p)) (packages virtual)
-        ≡ if_written o (λ p. test (virtual, p))
-    of-provider-kept-cases None has = all-true (packages virtual)
-    of-provider-kept-cases (Some q) has = all-picked (λ p. test (virtual, p)) q (packages virtual) ∙ rw (has q refl) refl
-
--- some node, by names
-pub any-node : (graph : Content) (test : Node → Bool) (names : List Text)
-    → list_all (λ n. not (test n)) graph.nodes ≡ list_all (λ n. if_written (node_of graph n) (λ m. not (test m))) names
-    → list_any test graph.nodes ≡ list_any (λ n. is_some_and (node_of graph n) test) names
-any-node graph test names same = sym (not-all test graph.nodes) ∙ ap not same ∙ by-names names
-  where
-    not-all : (test : Node → Bool) (xs : List Node) → not (list_all (λ n. not (test n)) xs) ≡ list_any test xs
-    not-all test [] = refl
-    not-all test (x ∷ xs) = elim (cases_Bool (test x)) [ inl t ↦ rw t refl | inr f ↦ rw f (not-all test xs) ]
-
-    any-node-cases : (o : Option Node) → not (if_written o (λ m. not (test m))) ≡ is_some_and o test
-    any-node-cases None = refl
-    any-node-cases (Some x) = not-not (test x)
-      where
-        not-not : (a : Bool) → not (not a) ≡ a
-        not-not true = refl
-        not-not false = refl
-
-    by-names : (ns : List Text) → not (list_all (λ n. if_written (node_of graph n) (λ m. not (test m))) ns)
-        ≡ list_any (λ n. is_some_and (node_of graph n) test) ns
-    by-names [] = refl
-    by-names (n ∷ ns) = not-and (if_written (node_of graph n) (λ m. not (test m)))
-        (list_all (λ n. if_written (node_of graph n) (λ m. not (test m))) ns) ∙ rw (any-node-cases (node_of graph n), by-names ns) refl
-      where
-        not-and : (a b : Bool) → not (a && b) ≡ (not a || not b)
-        not-and true b = refl
-        not-and false b = refl

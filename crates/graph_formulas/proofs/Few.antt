@@ -89,7 +89,8 @@ module _ {W T : Type 0} (p : W → Bool) (rule : T → Proposition W) (test : T 
       step false b c e = refl
 
   halves-kept : (xs ys : List T) → keeps_rule p (halves_rule rule xs ys) ≡ (no_one test xs || no_one test ys)
-  halves-kept xs ys = rw (some-kept p rule test same xs, some-kept p rule test same ys) (ap (λ b. no_one test xs || b) (or-false (no_one test ys)))
+  halves-kept xs ys = rw (some-kept p rule test same xs, some-kept p rule test same ys)
+      (ap (λ b. no_one test xs || b) (or-false (no_one test ys)))
 
   first-kept : (x : T) (xs : List T) → all_kept (first_rules rule x xs) ≡ (not (test x) || no_one test xs)
   first-kept x [] = sym (or-true (not (test x)))

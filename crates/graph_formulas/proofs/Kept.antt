@@ -25,7 +25,8 @@ use Rattle.recipe_data.specs.declared.recipe.ProvideRow.{ProvideRow}
 use Rattle.literal_table.specs.Spells.{values_at, values_or_none}
 use Rattle.literal_table.proofs.Spelling.{named-so}
 use Rattle.graph_formulas.specs.Facts.{GraphWord, Fact, is_there, has_version, has_variant, has_value, has_compiler, has_os, has_target, node_has, provides_as, has_path, is_so, is_in}
-use Rattle.graph_formulas.specs.Lists.{◌and◌, asked_unless, is_filled, where_written, each_keeps, some}
+use Rattle.graph_formulas.specs.Lists.{◌and◌, asked_unless, where_written, each_keeps, some}
+use Rattle.problem.specs.Closure.{is_filled}
 use Rattle.graph_formulas.specs.Parts.{there_rule, values_rule, asks_rest, asks_fact, rest_rule, meets_rule, tops_rule, row_rule, provides_rule, asked_rule, suits_rule, below_rule, holds_rule, condition_rule}
 use Rattle.graph_formulas.proofs.Rules.{given-kept, unless-so, unless-kept, written-kept, named-kept, each-kept, some-kept}
 

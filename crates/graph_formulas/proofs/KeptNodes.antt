@@ -14,7 +14,7 @@ use Rattle.graph_core.specs.declared.node.Origin.{Origin}
 use Rattle.graph_core.specs.declared.node.Origin.TheVariants.{Built, External, Installed}
 use Rattle.condition_rules.specs.Words.{if_written, is_some_and, implies}
 use Rattle.problem.specs.Problems.{Problem, world_of, package_entry_of, externals_in, record_at, same_compiler}
-use Rattle.problem.specs.Nodes.{covers, is_installed}
+use Rattle.problem.specs.Nodes.{covers, is_installed, same_origin}
 use Rattle.problem.specs.Records.{kept_dependencies}
 use Rattle.reuse_db.specs.declared.record.Record.{Record}
 use Rattle.reuse_db.specs.declared.record.Dependency.{Dependency}
@@ -28,7 +28,7 @@ use Rattle.graph_formulas.specs.Lists.{◌and◌, settled_test, one_keeps, each_
 use Rattle.graph_formulas.proofs.Rules.{given-kept, named-kept, each-kept}
 use Rattle.graph_formulas.proofs.Kept.{there}
 use Rattle.graph_formulas.specs.Edges.{no_kinds}
-use Rattle.graph_formulas.specs.Kept.{same_origin, installs, same_rule, kinds_rule, is_child_name, provided_rule, joined_rule, child_rule, recorded_rule, origin_rule, kept_rule}
+use Rattle.graph_formulas.specs.Kept.{installs, same_rule, kinds_rule, is_child_name, provided_rule, joined_rule, child_rule, recorded_rule, origin_rule, kept_rule}
 
 -- ---- origins
 
@@ -65,7 +65,8 @@ all-origins f o (a ∷ os) there = elim (cases_Bool (same_origin a o)) [
         and-true true = refl
         and-true false = refl
     rest f o (b ∷ bs) = elim (cases_Bool (same_origin b o)) [
-      | inl same ↦ let is : b ≡ o = origins-same b o same in rw (same, is) (twice (f o) (list_all (λ a. not (same_origin a o) || f a) bs) (rest f o bs))
+      | inl same ↦ let is : b ≡ o = origins-same b o same in
+          rw (same, is) (twice (f o) (list_all (λ a. not (same_origin a o) || f a) bs) (rest f o bs))
       | inr other ↦ rw other (rest f o bs)
     ]
       where
@@ -73,13 +74,15 @@ all-origins f o (a ∷ os) there = elim (cases_Bool (same_origin a o)) [
         twice true b h = h
         twice false b h = refl
 
-    later : In o (a ∷ os) → same_origin a o ≡ false → (In o os → list_all (λ a. not (same_origin a o) || f a) os ≡ f o) → list_all (λ a. not (same_origin a o) || f a) os ≡ f o
+    later : In o (a ∷ os) → same_origin a o ≡ false → (In o os → list_all (λ a. not (same_origin a o) || f a) os ≡ f o)
+        → list_all (λ a. not (same_origin a o) || f a) os ≡ f o
     later (inl same) other behind = absurd (let wrong : true ≡ false = sym (origin-itself o) ∙ ap (λ a. same_origin a o) same ∙ other in cc)
     later (inr there) other behind = behind there
 
 -- ---- kinds
 
-kind-tests : (A b l r kl kr : Bool) → (((A && not ((b && true) && true)) && (not (l && true) || kl)) && (not r || kr)) ≡ (A && ((implies b false && implies l kl) && implies r kr))
+kind-tests : (A b l r kl kr : Bool) → (((A && not ((b && true) && true)) && (not (l && true) || kl)) && (not r || kr))
+    ≡ (A && ((implies b false && implies l kl) && implies r kr))
 kind-tests false b l r kl kr = refl
 kind-tests true true l r kl kr = refl
 kind-tests true false false false true true = refl
@@ -105,7 +108,8 @@ on o wanted = is_some_and o (λ e. covers e.kinds wanted)
 -- ---- the rule
 
 module _ (problem : Problem) (graph : Content) (name : Text) (node : Node) (here : node_of graph name ≡ Some node) (children : List Text)
-    (edges : (test : Edge → Bool) → list_all test (edges_from graph name) ≡ list_all (λ child. if_written (edge_of graph name child) test) children)
+    (edges : (test : Edge → Bool) → list_all test (edges_from graph name)
+    ≡ list_all (λ child. if_written (edge_of graph name child) test) children)
     (child-named : (child : Text) (e : Edge) → edge_of graph name child ≡ Some e → e.child ≡ child) where
   abbrev in_graph : Proposition GraphWord → Bool
   in_graph rule = keeps_rule (is_in graph) rule
@@ -127,15 +131,18 @@ module _ (problem : Problem) (graph : Content) (name : Text) (node : Node) (here
       && option_eq same_compiler node.compiler k.compiler && bytes_eq node.os k.os && bytes_eq node.target k.target
       && option_eq bytes_eq node.prefix k.prefix) (sym (named-so graph name node here)))
 
-  kinds-kept : (child : Text) (kinds : Kinds) → in_graph (kinds_rule name child kinds) ≡ is_some_and (edge_of graph name child) (has_kinds kinds)
-  kinds-kept child kinds = rw (given-kept (is_in graph) kinds.link, given-kept (is_in graph) kinds.run) (kinds-kept-cases (edge_of graph name child))
+  kinds-kept : (child : Text) (kinds : Kinds)
+      → in_graph (kinds_rule name child kinds) ≡ is_some_and (edge_of graph name child) (has_kinds kinds)
+  kinds-kept child kinds = rw (given-kept (is_in graph) kinds.link, given-kept (is_in graph) kinds.run)
+      (kinds-kept-cases (edge_of graph name child))
     where
       kinds-kept-cases : (o : Option Edge) → (((on o (record kinds { build = false }) && not (on o (record no_kinds { build = true })))
           && (not (on o (record no_kinds { link = true })) || kinds.link))
           && (not (on o (record no_kinds { run = true })) || kinds.run))
           ≡ is_some_and o (has_kinds kinds)
       kinds-kept-cases None = refl
-      kinds-kept-cases (Some e) = kind-tests (covers e.kinds (record kinds { build = false })) e.kinds.build e.kinds.link e.kinds.run kinds.link kinds.run
+      kinds-kept-cases (Some e) = kind-tests (covers e.kinds (record kinds { build = false })) e.kinds.build e.kinds.link e.kinds.run
+          kinds.link kinds.run
 
   -- the edge is as it is recorded
   edge-recorded : (child : Text) (d : Dependency)
@@ -161,7 +168,8 @@ module _ (problem : Problem) (graph : Content) (name : Text) (node : Node) (here
   recorded-kept : (entry : Record) → in_graph (each_keeps (recorded_rule problem children name entry) children)
       ≡ list_all (is_child problem entry) (edges_from graph name)
   recorded-kept entry =
-      each-kept (is_in graph) (recorded_rule problem children name entry) (λ child. if_written (edge_of graph name child) (is_child problem entry))
+      each-kept (is_in graph) (recorded_rule problem children name entry)
+      (λ child. if_written (edge_of graph name child) (is_child problem entry))
       (λ child. recorded-kept-cases child (edge_of graph name child) (child-named child)) children
       ∙ sym (edges (is_child problem entry))
     where
@@ -187,7 +195,8 @@ module _ (problem : Problem) (graph : Content) (name : Text) (node : Node) (here
   origin-kept : (origin : Origin) → in_graph (origin_rule problem children name origin) ≡ keeps_origin problem graph node origin
   origin-kept Built = has (has_prefix is_none)
   origin-kept (External place) = rw (
-    named-kept (is_in graph) (λ entry. same_rule name (external_node problem name place entry)) (λ entry. same_attributes node (external_node problem name place entry))
+    named-kept (is_in graph) (λ entry. same_rule name (external_node problem name place entry))
+        (λ entry. same_attributes node (external_node problem name place entry))
         (λ entry. same-kept (external_node problem name place entry)) (slice_get (externals_in (package_entry_of problem name)) place),
     no-edge-kept,
   ) (ap (λ n. is_some_and (slice_get (externals_in (package_entry_of problem n)) place)
@@ -197,20 +206,24 @@ module _ (problem : Problem) (graph : Content) (name : Text) (node : Node) (here
       named-kept (is_in graph)
       (λ entry. same_rule name (installed_node entry) and each_keeps (child_rule problem children name) (kept_dependencies entry) and
       each_keeps (recorded_rule problem children name entry) children)
-      (λ entry. same_attributes node (installed_node entry) && list_all (keeps_child problem graph name) (kept_dependencies entry) && list_all (is_child problem entry) (edges_from graph name))
+      (λ entry. same_attributes node (installed_node entry) && list_all (keeps_child problem graph name) (kept_dependencies entry)
+      && list_all (is_child problem entry) (edges_from graph name))
       (λ entry. rw (
         same-kept (installed_node entry),
         each-kept (is_in graph) (child_rule problem children name) (keeps_child problem graph name) child-kept (kept_dependencies entry),
         recorded-kept entry,
       ) refl) (record_at problem hash)
       ∙ ap (λ n. is_some_and (record_at problem hash) (λ entry. same_attributes node (installed_node entry)
-      && list_all (keeps_child problem graph n) (kept_dependencies entry) && list_all (is_child problem entry) (edges_from graph n))) (sym (named-so graph name node here))
+      && list_all (keeps_child problem graph n) (kept_dependencies entry) && list_all (is_child problem entry) (edges_from graph n)))
+      (sym (named-so graph name node here))
 
   -- the rule of a kept node
-  pub kept-kept : (origins : List Origin) → In node.origin origins → in_graph (kept_rule problem children origins name) ≡ keeps_kept problem graph node
+  pub kept-kept : (origins : List Origin) → In node.origin origins
+      → in_graph (kept_rule problem children origins name) ≡ keeps_kept problem graph node
   unfolding keeps_kept
   kept-kept origins there =
-      each-kept (is_in graph) (λ origin. if_so (fact (node_has name (has_origin (same_origin origin)))) (origin_rule problem children name origin))
+      each-kept (is_in graph) (λ origin. if_so (fact (node_has name (has_origin (same_origin origin))))
+      (origin_rule problem children name origin))
       (λ origin. not (same_origin origin node.origin) || keeps_origin problem graph node origin)
       (λ origin. rw (has (has_origin (same_origin origin)), origin-kept origin) refl) origins
       ∙ all-origins (keeps_origin problem graph node) node.origin origins there

@@ -45,7 +45,8 @@ pub provider-listed : (v : ℕ → Bool) (table : Table) (graph : Content) → S
 provider-listed v table graph s virtual p is =
     chosen-among v (packages_of table virtual) p (rw (s.providers virtual, is, (bytes_decides p p).1 refl) refl)
 
-module _ (world : World) (v : ℕ → Bool) (path : Text → Text → Statement) (table : Table) (graph : Content) (s : SpellsPaths v path table graph) where
+module _ (world : World) (v : ℕ → Bool) (path : Text → Text → Statement) (table : Table) (graph : Content)
+    (s : SpellsPaths v path table graph) where
   abbrev kept : Proposition GraphWord → Bool
   kept rule = keeps_rule (is_in graph) rule
 
@@ -53,19 +54,25 @@ module _ (world : World) (v : ℕ → Bool) (path : Text → Text → Statement)
   said rule = rule-said v (word_said path table) (is_in graph) (word-said v path table graph s) rule
 
   -- the formula of a part
-  pub meets-said : (name : Text) (part : Part) → says v path table (meets_rule world name part) ≡ is_some_and (node_of graph name) (meets world part)
+  pub meets-said : (name : Text) (part : Part)
+      → says v path table (meets_rule world name part) ≡ is_some_and (node_of graph name) (meets world part)
   meets-said name part = said (meets_rule world name part) ∙ meets-kept world graph name part
 
   -- of a provider
   pub provides-said : (name virtual : Text) (wanted : Option (List Item))
-      → says v path table (provides_rule world name virtual wanted) ≡ is_some_and (node_of graph name) (λ node. provides world node virtual wanted)
+      → says v path table (provides_rule world name virtual wanted) ≡ is_some_and (node_of graph name)
+      (λ node. provides world node virtual wanted)
   provides-said name virtual wanted = said (provides_rule world name virtual wanted) ∙ provides-kept world graph name virtual wanted
 
   -- of a spec
-  pub holds-said : (name : Text) (spec : Spec) → says v path table (holds_rule world (names_for table) name spec) ≡ holds world spec graph name
-  holds-said name spec = said (holds_rule world (names_for table) name spec) ∙ holds-kept world graph (names_for table) (provider-listed v table graph s.facts) name spec
+  pub holds-said : (name : Text) (spec : Spec)
+      → says v path table (holds_rule world (names_for table) name spec) ≡ holds world spec graph name
+  holds-said name spec = said (holds_rule world (names_for table) name spec)
+      ∙ holds-kept world graph (names_for table) (provider-listed v table graph s.facts) name spec
 
   -- of a condition
-  pub condition-said : (name : Text) (condition : Condition) → says v path table (condition_rule world (names_for table) name condition) ≡ all_hold world condition graph name
+  pub condition-said : (name : Text) (condition : Condition)
+      → says v path table (condition_rule world (names_for table) name condition) ≡ all_hold world condition graph name
   condition-said name condition =
-      said (condition_rule world (names_for table) name condition) ∙ condition-kept world graph (names_for table) (provider-listed v table graph s.facts) name condition
+      said (condition_rule world (names_for table) name condition)
+      ∙ condition-kept world graph (names_for table) (provider-listed v table graph s.facts) name condition

@@ -1,206 +1,90 @@
--- What the formulas of rules say of the graph that literals spell.
-use Rattle.std.proofs.Common.{filter, ◌≡◌, refl, sym, ap, subst, ◌∙◌, Bool, true, false, not, ◌||◌, ◌&&◌, ℕ, List, [], ◌∷◌, map, Option, Some, None, inl, inr}
-use Rattle.std.specs.Prelude.{if◌then◌else◌}
+-- What the formulas of the rules of a graph's structure say of the graph that literals spell.
+use Rattle.std.proofs.Common.{filter, ◌≡◌, refl, sym, ap, subst, ◌∙◌, Bool, true, false, not, ◌&&◌, ℕ, List, [], map, Option, Some, None, inl, inr}
 use Rattle.std.specs.List.{list_all}
-use Rattle.std.specs.Option.{is_some}
 use Rattle.std.proofs.lemmas.Bool.{cases_Bool}
-use Rattle.clause_store.specs.Lits.{lit_true}
-use Rattle.clause_formulas.specs.Statements.{Statement, eval}
+use Rattle.clause_formulas.specs.Statements.{Statement}
 use Rattle.clause_formulas.specs.Rules.{Proposition, keeps_rule}
-use Rattle.clause_formulas.proofs.RuleLaws.{rule-said}
-use Rattle.spec_grammar.specs.declared.part.Spec.{Spec}
-use Rattle.graph_core.specs.Graphs.{Text, Content, node_of, provider_of, edge_of, edges_from, ends_of, HasNode}
-use Rattle.std.proofs.lemmas.List.Elements.{All-contains}
-use Rattle.keyed_lists.proofs.LookupLaws.{find_sound}
-use Rattle.graph_core.proofs.GraphLaws.{has_decides}
-use Rattle.graph_core.proofs.PairLaws.{pair_total, pair_exact}
+use Rattle.graph_core.specs.Graphs.{Text, Content, node_of, provider_of, edge_of, edges_from, ends_of}
 use Rattle.graph_core.specs.declared.node.Node.{Node}
 use Rattle.graph_core.specs.declared.node.Edge.{Edge}
-use Rattle.virtuals.specs.Virtuals.{is_virtual}
 use Rattle.condition_rules.specs.Words.{is_one_text, implies, if_written, is_some_and}
 use Rattle.recipe_data.specs.OfSpecGrammar.Condition.{Condition}
-use Rattle.recipe_data.specs.declared.recipe.DependRow.{DependRow}
-use Rattle.recipe_data.specs.declared.recipe.ConflictRow.{ConflictRow}
-use Rattle.recipe_data.specs.declared.recipe.RequireRow.{RequireRow}
-use Rattle.problem.specs.Nodes.{has_kind, covers, is_built}
+use Rattle.problem.specs.Nodes.{covers, is_built}
 use Rattle.problem.specs.Problems.{Problem, world_of, variants_at}
-use Rattle.problem.specs.declared.demand.Demand.{Demand}
 use Rattle.graph_rules.specs.Built.{keeps_buildable, keeps_version, keeps_compiler, keeps_machine, keeps_variant, keeps_extra_edge, is_asked, is_asked_virtual, asking, asked_kinds}
 use Rattle.graph_rules.specs.Whole.{keeps_provider, keeps_no_cycle, keeps_reachable, keeps_together, keeps_used, uses}
-use Rattle.graph_rules.specs.Directives.{keeps_root, keeps_edge, keeps_constraint, keeps_conflict, keeps_requirement}
 use Rattle.graph_rules.specs.Kept.{keeps_kept}
-use Rattle.graph_rules.specs.Valid.{keeps, each_built, keeps_demand}
+use Rattle.graph_rules.specs.Valid.{keeps, each_built}
 use Rattle.graph_rules.specs.declared.rule.Rule.TheVariants as rules
 use Rattle.graph_rules.proofs.Lists.{In, In-among, list_all-each, list_all-from}
-use Rattle.literal_table.specs.Choices.{Choices, chosen, choice_values}
 use Rattle.literal_table.specs.Tables.{Table, block_of, edge_lits_of, edge_virtuals, table_names, children_of}
-use Rattle.literal_table.specs.Spells.{SpellsNode, SpellsAt, SpellsEdge, virtuals_in, chosen_kinds}
+use Rattle.literal_table.specs.Spells.{SpellsNode, SpellsAt, SpellsEdge, virtuals_in}
 use Rattle.literal_table.specs.declared.block.Block.{Block}
-use Rattle.literal_table.specs.declared.block.EdgeLits.{EdgeLits}
 use Rattle.literal_table.proofs.Spelling.{named-so}
-use Rattle.graph_formulas.specs.Facts.{word_said, is_in}
 use Rattle.graph_formulas.specs.Words.{names_for}
-use Rattle.graph_formulas.proofs.WordsSaid.{word-said}
-use Rattle.graph_formulas.proofs.Rules.{given-kept, each-kept, some-kept}
+use Rattle.graph_formulas.proofs.Rules.{each-kept, some-kept}
 use Rattle.graph_formulas.proofs.Kept.{by_node}
-use Rattle.graph_formulas.proofs.Parts.{provider-listed}
-use Rattle.graph_formulas.specs.Terms.{Term, known, met, is_true, term_said, known_rule, where_built, where_there}
-use Rattle.graph_formulas.specs.Directives.{root_rule, edge_rule, constraint_rule, conflict_rule, requirement_rule}
+use Rattle.graph_formulas.specs.Terms.{Term, is_true, known_rule, where_built, where_there}
 use Rattle.graph_formulas.specs.Built.{buildable_rule, version_rule, compiler_rule, machine_rule, provider_rule, no_cycle_rule, reachable_rule}
 use Rattle.graph_formulas.specs.Edges.{extra_edge_rule, extra_edges_rule, use_rule, used_rule, of_provider}
 use Rattle.graph_formulas.specs.Together.{together_rule}
 use Rattle.graph_formulas.specs.Variants.{variant_rule, variants_rule, keeps_one_variant}
 use Rattle.graph_formulas.specs.Kept.{origins_in, origins_of, kept_rule}
-use Rattle.graph_formulas.specs.Demands.{demand_rule}
-use Rattle.graph_formulas.specs.Laws.{SpellsProblem, HasVariants, rule_says, if_built, has_name, virtuals_of, virtuals_on, may_use, variants_in, variants_of}
+use Rattle.graph_formulas.specs.Laws.{SpellsProblem, HasVariants, rule_says, if_built, virtuals_of, virtuals_on, may_use, variants_in, variants_of}
 use Rattle.graph_formulas.proofs.Names.{all-same, found-ends, each-node-said, each-provider-said, each-edge-said}
-use Rattle.graph_formulas.proofs.Directives.{LeadsToNodes, root-kept, edge-kept, constraint-kept, conflict-kept, requirement-kept, built-kept}
-use Rattle.graph_formulas.proofs.Demands.{demand-kept}
 use Rattle.graph_formulas.proofs.Built.{buildable-kept, version-kept, compiler-kept, machine-kept, provider-kept, no_cycle-kept, reachable-kept}
-use Rattle.graph_formulas.proofs.Edges.{extra_edge-kept, of-provider-kept, any-node, any-narrowed}
+use Rattle.graph_formulas.proofs.Edges.{extra_edge-kept}
 use Rattle.graph_formulas.proofs.Together.{together-kept}
 use Rattle.graph_formulas.proofs.VariantRule.{variant-kept}
 use Rattle.graph_formulas.proofs.AllVariants.{spelled-variants, among-In}
 use Rattle.graph_formulas.proofs.KeptNodes.{kept-kept}
+use Rattle.graph_formulas.proofs.ListTests.{any-narrowed}
+use Rattle.graph_formulas.proofs.Providers.{of-provider-kept, any-node}
+use Rattle.graph_formulas.proofs.SpelledParts.{spelled-kind, edge-child, all-among, chosen-offered}
+use Rattle.graph_formulas.proofs.DemandsSaid.{listed, leads, leaves, said, where-built, where-there}
 
-some-injective : {T : Type 0} {x y : T} → Some x ≡ Some y → x ≡ y
-some-injective same = cc
+module _ (problem : Problem) (v : ℕ → Bool) (path : Text → Text → Statement) (condition : Text → Condition → Statement) (table : Table)
+    (graph : Content) (s : SpellsProblem problem v path condition table graph) where
+  pub buildable-said : (name : Text) → rule_says v path condition table (where_built name (known_rule (buildable_rule problem name)))
+      ≡ if_built graph name (keeps_buildable problem)
+  buildable-said name = where-built problem v path condition table graph s name (known_rule (buildable_rule problem name)) _
+      (buildable-kept problem graph name)
 
--- a spelled edge has a kind
-spelled-kind : (v : ℕ → Bool) (c : Option EdgeLits) (e : Edge) → SpellsEdge v c (Some e) → has_kind e.kinds ≡ true
-spelled-kind v None e s = absurd (let none : Some e ≡ None = s in cc)
-spelled-kind v (Some b) e s = spelled-kind-cases (has_kind (chosen_kinds v b)) refl s
-  where
-    spelled-kind-cases : (a : Bool) → has_kind (chosen_kinds v b) ≡ a → Some e.kinds ≡ (if a then Some (chosen_kinds v b) else None) → has_kind e.kinds ≡ true
-    spelled-kind-cases true is same = let k : e.kinds ≡ chosen_kinds v b = some-injective same in ap has_kind k ∙ is
-    spelled-kind-cases false is same = absurd (let none : Some e.kinds ≡ None = same in cc)
+  pub version-said : (name : Text) → rule_says v path condition table (where_built name (known_rule (version_rule problem name)))
+      ≡ if_built graph name (keeps_version problem)
+  version-said name = where-built problem v path condition table graph s name (known_rule (version_rule problem name)) _
+      (version-kept problem graph name)
 
-edge-child : (graph : Content) (parent child : Text) (e : Edge) → edge_of graph parent child ≡ Some e → e.child ≡ child
-edge-child graph parent child e here = ap (λ p. p.1) (found-ends ends_of graph.edges parent child e here).1
+  pub compiler-said : (name : Text) → rule_says v path condition table (where_built name (known_rule (compiler_rule problem name)))
+      ≡ if_built graph name (keeps_compiler problem)
+  compiler-said name = where-built problem v path condition table graph s name (known_rule (compiler_rule problem name)) _
+      (compiler-kept problem graph name)
 
--- each of a list is among it
--- each text of a list is among them
-pub all-among : (xs : List Text) → list_all (is_one_text xs) xs ≡ true
-all-among xs = list_all-from (is_one_text xs) xs (λ x there. among-In xs x there)
+  pub machine-said : (name : Text) → rule_says v path condition table (where_built name (known_rule (machine_rule problem name)))
+      ≡ if_built graph name (keeps_machine problem)
+  machine-said name = where-built problem v path condition table graph s name (known_rule (machine_rule problem name)) _
+      (machine-kept problem graph name)
 
-one-more : {T : Type 0} (x y : T) (ys zs : List T) → (In x ys → In x zs) → In x (y ∷ ys) → In x (y ∷ zs)
-one-more x y ys zs rest (inl same) = inl same
-one-more x y ys zs rest (inr later) = inr (rest later)
+  pub no_cycle-said : (name : Text) → rule_says v path condition table (where_there name (known_rule (no_cycle_rule problem name)))
+      ≡ if_written (node_of graph name) (keeps_no_cycle graph)
+  no_cycle-said name = where-there problem v path condition table graph s name (known_rule (no_cycle_rule problem name)) _
+      (no_cycle-kept problem graph name)
 
--- what is chosen is offered
-chosen-offered : {T : Type 0} (v : ℕ → Bool) (cs : Choices T) (x : T) → In x (chosen v cs) → In x (choice_values cs)
-chosen-offered v [] x none = none
-chosen-offered v (c ∷ cs) x there = elim (cases_Bool (lit_true v c.1)) [
-  | inl t ↦ let here : In x (c.0 ∷ chosen v cs) = rw t at there in
-      one-more x c.0 (chosen v cs) (choice_values cs) (chosen-offered v cs x) here
-  | inr f ↦ let here : In x (chosen v cs) = rw f at there in inr (chosen-offered v cs x here)
-]
+  pub reachable-said : (name : Text) → rule_says v path condition table (where_there name (known_rule (reachable_rule problem name)))
+      ≡ if_written (node_of graph name) (keeps_reachable problem graph)
+  reachable-said name = where-there problem v path condition table graph s name (known_rule (reachable_rule problem name)) _
+      (reachable-kept problem graph name)
 
-module _ (problem : Problem) (v : ℕ → Bool) (path : Text → Text → Statement) (condition : Text → Condition → Statement) (table : Table) (graph : Content) (s : SpellsProblem problem v path condition table graph) where
-  listed : (virtual p : Text) → provider_of graph virtual ≡ Some p → is_one_text (names_for table virtual) p ≡ true
-  listed = provider-listed v table graph s.whole.facts
-
-  leads : LeadsToNodes graph
-  leads parent child absent = leads-cases (edge_of graph parent child) refl
-    where
-      leads-cases : (o : Option Edge) → edge_of graph parent child ≡ o → edge_of graph parent child ≡ None
-      leads-cases None is = is
-      leads-cases (Some e) is =
-          let found = find_sound pair_total pair_exact ends_of graph.edges (parent, child) e is in
-          let there = subst (HasNode graph) (ap (λ p. p.1) found.1) (All-contains (λ (d : Edge). HasNode graph d.child) graph.edges e s.is_graph.children found.0) in
-          absurd (let both : true ≡ false = sym ((has_decides graph child).1 there) ∙ ap is_some absent in cc)
-
-  term-said : (t : Term) → eval v (term_said path condition table t) ≡ is_true (world_of problem) graph t
-  term-said (known rule) = rule-said v (word_said path table) (is_in graph) (word-said v path table graph s.whole) rule
-  term-said (met name when) = s.conditions name when
-
-  said : (rule : Proposition Term) → rule_says v path condition table rule ≡ keeps_rule (is_true (world_of problem) graph) rule
-  said rule = rule-said v (term_said path condition table) (is_true (world_of problem) graph) term-said rule
-
-  -- a rule that holds where its test does, asked where the node is built
-  where-built : (name : Text) (rule : Proposition Term) (test : Node → Bool)
-      → ((node : Node) → node_of graph name ≡ Some node → keeps_rule (is_true (world_of problem) graph) rule ≡ test node)
-      → rule_says v path condition table (where_built name rule) ≡ if_built graph name test
-  where-built name rule test same = said (where_built name rule) ∙ built-kept problem (names_for table) graph listed name rule test same
-
-  -- a law said at the node's own name
-  at-name : (name : Text) (rule : Text → Proposition Term) (test : Node → Bool)
-      → ((node : Node) → keeps_rule (is_true (world_of problem) graph) (rule node.name) ≡ test node)
-      → rule_says v path condition table (where_built name (rule name)) ≡ if_built graph name test
-  at-name name rule test same =
-      where-built name (rule name) test (λ node here. ap (λ n. keeps_rule (is_true (world_of problem) graph) (rule n)) (sym (named-so graph name node here)) ∙ same node)
-
-  -- the formula of a root's rule says whether the graph keeps it; so do those of the other rules
-  pub root-said : (spec : Spec) → rule_says v path condition table (known_rule (root_rule problem (names_for table) spec)) ≡ keeps_root problem graph spec
-  root-said spec = said (known_rule (root_rule problem (names_for table) spec)) ∙ root-kept problem (names_for table) graph listed spec
-
-  pub edge-said : (name : Text) (row : DependRow) → rule_says v path condition table (where_built name (edge_rule problem (names_for table) name row)) ≡ if_built graph name (λ node. keeps_edge problem graph node row)
-  edge-said name row = at-name name (λ n. edge_rule problem (names_for table) n row) _ (λ node. edge-kept problem (names_for table) graph listed leads node row)
-
-  pub constraint-said : (name : Text) (row : DependRow) → rule_says v path condition table (where_built name (constraint_rule problem (names_for table) name row)) ≡ if_built graph name (λ node. keeps_constraint problem graph node row)
-  constraint-said name row = at-name name (λ n. constraint_rule problem (names_for table) n row) _ (λ node. constraint-kept problem (names_for table) graph listed node row)
-
-  pub conflict-said : (name : Text) (row : ConflictRow) → rule_says v path condition table (where_built name (conflict_rule problem (names_for table) name row)) ≡ if_built graph name (λ node. keeps_conflict problem graph node row)
-  conflict-said name row = at-name name (λ n. conflict_rule problem (names_for table) n row) _ (λ node. conflict-kept problem (names_for table) graph listed node row)
-
-  pub requirement-said : (name : Text) (row : RequireRow) → rule_says v path condition table (where_built name (requirement_rule problem (names_for table) name row)) ≡ if_built graph name (λ node. keeps_requirement problem graph node row)
-  requirement-said name row = at-name name (λ n. requirement_rule problem (names_for table) n row) _ (λ node. requirement-kept problem (names_for table) graph listed node row)
-
-  pub buildable-said : (name : Text) → rule_says v path condition table (where_built name (known_rule (buildable_rule problem name))) ≡ if_built graph name (keeps_buildable problem)
-  buildable-said name = where-built name (known_rule (buildable_rule problem name)) _ (buildable-kept problem graph name)
-
-  pub version-said : (name : Text) → rule_says v path condition table (where_built name (known_rule (version_rule problem name))) ≡ if_built graph name (keeps_version problem)
-  version-said name = where-built name (known_rule (version_rule problem name)) _ (version-kept problem graph name)
-
-  pub compiler-said : (name : Text) → rule_says v path condition table (where_built name (known_rule (compiler_rule problem name))) ≡ if_built graph name (keeps_compiler problem)
-  compiler-said name = where-built name (known_rule (compiler_rule problem name)) _ (compiler-kept problem graph name)
-
-  pub machine-said : (name : Text) → rule_says v path condition table (where_built name (known_rule (machine_rule problem name))) ≡ if_built graph name (keeps_machine problem)
-  machine-said name = where-built name (known_rule (machine_rule problem name)) _ (machine-kept problem graph name)
-
-  pub variant-said : (name variant : Text) → rule_says v path condition table (where_built name (variant_rule problem name variant)) ≡ if_built graph name (λ node. keeps_one_variant problem graph node variant)
-  variant-said name variant = where-built name (variant_rule problem name variant) (λ node. keeps_one_variant problem graph node variant) (λ node here. variant-kept problem graph name node here variant)
-
-  -- where the node is there
-  where-there : (name : Text) (rule : Proposition Term) (test : Node → Bool)
-      → ((node : Node) → node_of graph name ≡ Some node → keeps_rule (is_true (world_of problem) graph) rule ≡ test node)
-      → rule_says v path condition table (where_there name rule) ≡ if_written (node_of graph name) test
-  where-there name rule test same =
-      said (where_there name rule)
-      ∙ by_node graph name (λ o. (not (is_some_and o (λ node. true)) || keeps_rule (is_true (world_of problem) graph) rule) ≡ if_written o test) (λ node here. same node here) (λ absent. refl)
-
-  pub no_cycle-said : (name : Text) → rule_says v path condition table (where_there name (known_rule (no_cycle_rule problem name))) ≡ if_written (node_of graph name) (keeps_no_cycle graph)
-  no_cycle-said name = where-there name (known_rule (no_cycle_rule problem name)) _ (no_cycle-kept problem graph name)
-
-  pub reachable-said : (name : Text) → rule_says v path condition table (where_there name (known_rule (reachable_rule problem name))) ≡ if_written (node_of graph name) (keeps_reachable problem graph)
-  reachable-said name = where-there name (known_rule (reachable_rule problem name)) _ (reachable-kept problem graph name)
-
-  pub provider-said : (p : Text × Text) → rule_says v path condition table (known_rule (provider_rule problem p)) ≡ keeps_provider problem graph p
-  provider-said p = said (known_rule (provider_rule problem p)) ∙ provider-kept problem graph p
-
-  -- where a name has no node, no edge leaves it
-  leaves : (parent child : Text) → node_of graph parent ≡ None → edge_of graph parent child ≡ None
-  leaves parent child absent = leaves-cases (edge_of graph parent child) refl
-    where
-      leaves-cases : (o : Option Edge) → edge_of graph parent child ≡ o → edge_of graph parent child ≡ None
-      leaves-cases None is = is
-      leaves-cases (Some e) is =
-          let found = find_sound pair_total pair_exact ends_of graph.edges (parent, child) e is in
-          let there = subst (HasNode graph) (ap (λ p. p.0) found.1) (All-contains (λ (d : Edge). HasNode graph d.parent) graph.edges e s.is_graph.parents found.0) in
-          absurd (let both : true ≡ false = sym ((has_decides graph parent).1 there) ∙ ap is_some absent in cc)
-
-  use-kept : (p : Text × Text) (name : Text) → is_one_text (virtuals_in (edge_of graph name p.1)) p.0 ≡ is_some_and (node_of graph name) (uses graph p)
+  use-kept : (p : Text × Text) (name : Text)
+      → is_one_text (virtuals_in (edge_of graph name p.1)) p.0 ≡ is_some_and (node_of graph name) (uses graph p)
   use-kept p name = by_node graph name (λ o. is_one_text (virtuals_in (edge_of graph name p.1)) p.0 ≡ is_some_and o (uses graph p))
       (λ node here. by_edge (edge_of graph name p.1)
       ∙ ap (λ n. is_some_and (edge_of graph n p.1) (λ e. is_one_text e.virtuals p.0)) (sym (named-so graph name node here)))
-      (λ absent. ap (λ o. is_one_text (virtuals_in o) p.0) (leaves name p.1 absent))
+      (λ absent. ap (λ o. is_one_text (virtuals_in o) p.0) (leaves problem v path condition table graph s name p.1 absent))
     where
       by_edge : (o : Option Edge) → is_one_text (virtuals_in o) p.0 ≡ is_some_and o (λ e. is_one_text e.virtuals p.0)
       by_edge None = refl
       by_edge (Some e) = refl
-
-  pub use-said : (p : Text × Text) (name : Text) → rule_says v path condition table (use_rule p name) ≡ is_some_and (node_of graph name) (uses graph p)
-  use-said p name = said (use_rule p name) ∙ use-kept p name
 
   -- what an edge names it may name
   named-may : (parent child q : Text) → In q (virtuals_in (edge_of graph parent child)) → In q (virtuals_on table parent child)
@@ -233,41 +117,22 @@ module _ (problem : Problem) (v : ℕ → Bool) (path : Text → Text → Statem
 
   asked-edge : (name child : Text) (node : Node) (o : Option Edge) → edge_of graph name child ≡ o
       → (if_written o (λ e. covers (asked_kinds (asking problem graph node child)) e.kinds)
-      && list_all (λ q. implies (is_one_text (virtuals_in o) q) (is_asked_virtual problem graph node child q)) (virtuals_on table name child))
+      && list_all (λ q. implies (is_one_text (virtuals_in o) q) (is_asked_virtual problem graph node child q))
+      (virtuals_on table name child))
       ≡ if_written o (is_asked problem graph node)
   asked-edge name child node None here =
       asked-all (is_asked_virtual problem graph node child) [] (virtuals_on table name child) (λ q none. absurd none)
   asked-edge name child node (Some e) here =
-      let kind = spelled-kind v (edge_lits_of table name child) e (subst (SpellsEdge v (edge_lits_of table name child)) here (s.whole.facts.edges name child)) in
+      let kind = spelled-kind v (edge_lits_of table name child) e
+      (subst (SpellsEdge v (edge_lits_of table name child)) here (s.whole.facts.edges name child)) in
       let c : e.child ≡ child = edge-child graph name child e here in
       rw (
         kind,
         asked-all (is_asked_virtual problem graph node child) e.virtuals (virtuals_on table name child)
             (λ q there. named-may name child q (subst (λ o. In q (virtuals_in o)) (sym here) there)),
       )
-      (ap (λ n. covers (asked_kinds (asking problem graph node n)) e.kinds && list_all (is_asked_virtual problem graph node n) e.virtuals) (sym c))
-
-  pub extra_edge-said : (name child : Text) → rule_says v path condition table
-      (where_built name (extra_edge_rule problem (names_for table) (virtuals_on table name child) name child))
-      ≡ if_built graph name (λ node. if_written (edge_of graph name child) (is_asked problem graph node))
-  extra_edge-said name child =
-      where-built name (extra_edge_rule problem (names_for table) (virtuals_on table name child) name child) (λ node. if_written (edge_of graph name child) (is_asked problem graph node))
-      (λ node here. extra_edge-kept problem (names_for table) graph listed name node here leads (virtuals_on table name child) child
-      ∙ asked-edge name child node (edge_of graph name child) refl)
-
-  -- ---- demands
-
-  -- a name that the table does not have has no node
-  unnamed : (name : Text) → has_name table name ≡ false → node_of graph name ≡ None
-  unnamed name = unnamed-cases (block_of table name) (s.whole.facts.nodes name)
-    where
-      unnamed-cases : (o : Option Block) → SpellsAt v o (node_of graph name) → is_some o ≡ false → node_of graph name ≡ None
-      unnamed-cases None spelled h = spelled
-      unnamed-cases (Some b) spelled h = cc
-
-  pub demand-said : (d : Demand) → rule_says v path condition table (demand_rule problem (names_for table) (has_name table) d) ≡ keeps_demand problem graph d
-  demand-said d =
-      said (demand_rule problem (names_for table) (has_name table) d) ∙ demand-kept problem (names_for table) graph listed leads (has_name table) unnamed d
+      (ap (λ n. covers (asked_kinds (asking problem graph node n)) e.kinds && list_all (is_asked_virtual problem graph node n) e.virtuals)
+      (sym c))
 
   -- ---- rules of all nodes, by names
 
@@ -275,10 +140,13 @@ module _ (problem : Problem) (v : ℕ → Bool) (path : Text → Text → Statem
       (table_names table)
   nodes-said = each-node-said v table graph s.whole.facts s.is_table s.is_graph
 
-  providers-said : (test : Text × Text → Bool) → list_all test graph.providers ≡ list_all (λ w. if_written (provider_of graph w) (λ p. test (w, p))) (virtuals_of table)
+  providers-said : (test : Text × Text → Bool)
+      → list_all test graph.providers ≡ list_all (λ w. if_written (provider_of graph w) (λ p. test (w, p))) (virtuals_of table)
   providers-said = each-provider-said v table graph s.whole.facts s.is_table s.is_graph
 
-  edges-said : (parent : Text) (test : Edge → Bool) → list_all test (edges_from graph parent) ≡ list_all (λ child. if_written (edge_of graph parent child) test) (children_of table parent)
+  edges-said : (parent : Text) (test : Edge → Bool)
+      → list_all test (edges_from graph parent) ≡ list_all (λ child. if_written (edge_of graph parent child) test)
+      (children_of table parent)
   edges-said = each-edge-said v table graph s.whole.facts s.is_table s.is_graph
 
   -- formulas at all names say the rule of all nodes to build
@@ -325,30 +193,44 @@ module _ (problem : Problem) (v : ℕ → Bool) (path : Text → Text → Statem
   all-reachable = each-there (λ name. known_rule (reachable_rule problem name)) (keeps_reachable problem graph) reachable-said
 
   pub all-extra_edge : list_all (λ name. rule_says v path condition table
-      (where_built name (extra_edges_rule problem (names_for table) (virtuals_on table name) (children_of table name) name))) (table_names table)
+      (where_built name (extra_edges_rule problem (names_for table) (virtuals_on table name) (children_of table name) name)))
+      (table_names table)
       ≡ keeps rules.ExtraEdge problem graph
   unfolding keeps keeps_extra_edge
-  all-extra_edge = each-built (λ name. extra_edges_rule problem (names_for table) (virtuals_on table name) (children_of table name) name) (keeps_extra_edge problem graph)
-      (λ name. where-built name (extra_edges_rule problem (names_for table) (virtuals_on table name) (children_of table name) name) (keeps_extra_edge problem graph) (λ node here.
-      each-kept (is_true (world_of problem) graph) (λ child. extra_edge_rule problem (names_for table) (virtuals_on table name child) name child)
+  all-extra_edge = each-built (λ name. extra_edges_rule problem (names_for table) (virtuals_on table name) (children_of table name) name)
+      (keeps_extra_edge problem graph)
+      (λ name. where-built problem v path condition table graph s name
+      (extra_edges_rule problem (names_for table) (virtuals_on table name) (children_of table name) name)
+      (keeps_extra_edge problem graph) (λ node here.
+      each-kept (is_true (world_of problem) graph)
+      (λ child. extra_edge_rule problem (names_for table) (virtuals_on table name child) name child)
       (λ child. if_written (edge_of graph name child) (is_asked problem graph node))
-      (λ child. extra_edge-kept problem (names_for table) graph listed name node here leads (virtuals_on table name child) child ∙ asked-edge name child node (edge_of graph name child) refl) (children_of table name)
+      (λ child. extra_edge-kept problem (names_for table) graph (listed problem v path condition table graph s) name node here
+      (leads problem v path condition table graph s) (virtuals_on table name child) child
+      ∙ asked-edge name child node (edge_of graph name child) refl) (children_of table name)
       ∙ sym (edges-said name (is_asked problem graph node))
       ∙ ap (λ n. list_all (is_asked problem graph node) (edges_from graph n)) (sym (named-so graph name node here))))
 
   -- formulas of all virtuals say the rule of all providers
   each-by-virtual : (rule : Text × Text → Proposition Term) (test : Text × Text → Bool)
       → ((p : Text × Text) → keeps_rule (is_true (world_of problem) graph) (rule p) ≡ test p)
-      → list_all (λ w. rule_says v path condition table (of_provider (names_for table) rule w)) (virtuals_of table) ≡ list_all test graph.providers
+      → list_all (λ w. rule_says v path condition table (of_provider (names_for table) rule w)) (virtuals_of table)
+      ≡ list_all test graph.providers
   each-by-virtual rule test same =
-      all-same _ (λ w. if_written (provider_of graph w) (λ p. test (w, p))) (λ w. said (of_provider (names_for table) rule w) ∙ of-provider-kept problem (names_for table) graph listed rule test same w) (virtuals_of table)
+      all-same _ (λ w. if_written (provider_of graph w) (λ p. test (w, p)))
+      (λ w. said problem v path condition table graph s (of_provider (names_for table) rule w)
+      ∙ of-provider-kept problem (names_for table) graph (listed problem v path condition table graph s) rule test same w)
+      (virtuals_of table)
       ∙ sym (providers-said test)
 
-  pub all-provider : list_all (λ w. rule_says v path condition table (of_provider (names_for table) (λ p. known_rule (provider_rule problem p)) w)) (virtuals_of table) ≡ keeps rules.Provider problem graph
+  pub all-provider : list_all (λ w. rule_says v path condition table
+      (of_provider (names_for table) (λ p. known_rule (provider_rule problem p)) w)) (virtuals_of table)
+      ≡ keeps rules.Provider problem graph
   unfolding keeps
   all-provider = each-by-virtual (λ p. known_rule (provider_rule problem p)) (keeps_provider problem graph) (provider-kept problem graph)
 
-  pub all-used : list_all (λ w. rule_says v path condition table (of_provider (names_for table) (used_rule (may_use table) (table_names table)) w))
+  pub all-used : list_all (λ w. rule_says v path condition table
+      (of_provider (names_for table) (used_rule (may_use table) (table_names table)) w))
       (virtuals_of table) ≡ keeps rules.UnusedProvider problem graph
   unfolding keeps keeps_used
   all-used = each-by-virtual (used_rule (may_use table) (table_names table)) (keeps_used graph) (λ p.
@@ -357,22 +239,26 @@ module _ (problem : Problem) (v : ℕ → Bool) (path : Text → Text → Statem
       ∙ any-narrowed (λ name. is_some_and (node_of graph name) (uses graph p)) (may_use table p) (user-may p) (table_names table)
       ∙ sym (any-node graph (uses graph p) (table_names table) (nodes-said (λ node. not (uses graph p node)))))
 
-  pub all-together : list_all (λ w. rule_says v path condition table (of_provider (names_for table) (together_rule problem (names_for table)) w))
+  pub all-together : list_all (λ w. rule_says v path condition table
+      (of_provider (names_for table) (together_rule problem (names_for table)) w))
       (virtuals_of table) ≡ keeps rules.Together problem graph
   unfolding keeps
   all-together = each-by-virtual (together_rule problem (names_for table)) (keeps_together problem graph)
-      (together-kept problem (names_for table) graph listed)
+      (together-kept problem (names_for table) graph (listed problem v path condition table graph s))
 
   pub all-variant : HasVariants problem table
       → list_all (λ name. rule_says v path condition table (where_built name (variants_rule problem (variants_of table name) name)))
       (table_names table) ≡ keeps rules.Variant problem graph
   unfolding keeps
   all-variant has = each-built (λ name. variants_rule problem (variants_of table name) name) (keeps_variant problem graph)
-      (λ name. where-built name (variants_rule problem (variants_of table name) name) (keeps_variant problem graph) (λ node here.
-      each-kept (is_true (world_of problem) graph) (variant_rule problem name) (keeps_one_variant problem graph node) (λ x. variant-kept problem graph name node here x) (variants_of table name)
+      (λ name. where-built problem v path condition table graph s name (variants_rule problem (variants_of table name) name)
+      (keeps_variant problem graph) (λ node here.
+      each-kept (is_true (world_of problem) graph) (variant_rule problem name) (keeps_one_variant problem graph node)
+      (λ x. variant-kept problem graph name node here x) (variants_of table name)
       ∙ sym (at-block name node here (block_of table name) refl (s.whole.facts.nodes name))))
     where
-      at-block : (name : Text) (node : Node) → node_of graph name ≡ Some node → (c : Option Block) → block_of table name ≡ c → SpellsAt v c (node_of graph name)
+      at-block : (name : Text) (node : Node) → node_of graph name ≡ Some node → (c : Option Block) → block_of table name ≡ c
+          → SpellsAt v c (node_of graph name)
           → keeps_variant problem graph node ≡ list_all (keeps_one_variant problem graph node) (variants_of table name)
       at-block name node here None is spells = absurd (let wrong : Some node ≡ None = sym here ∙ spells in cc)
       at-block name node here (Some b) is spells =
@@ -386,12 +272,16 @@ module _ (problem : Problem) (v : ℕ → Bool) (path : Text → Text → Statem
       (where_there name (known_rule (kept_rule problem (children_of table name) (origins_of table name) name)))) (table_names table)
       ≡ keeps rules.Kept problem graph
   unfolding keeps
-  all-kept = each-there (λ name. known_rule (kept_rule problem (children_of table name) (origins_of table name) name)) (keeps_kept problem graph)
-      (λ name. where-there name (known_rule (kept_rule problem (children_of table name) (origins_of table name) name)) (keeps_kept problem graph) (λ node here.
-      kept-kept problem graph name node here (children_of table name) (edges-said name) (λ child e at. ap (λ p. p.1) (found-ends ends_of graph.edges name child e at).1)
+  all-kept = each-there (λ name. known_rule (kept_rule problem (children_of table name) (origins_of table name) name))
+      (keeps_kept problem graph)
+      (λ name. where-there problem v path condition table graph s name
+      (known_rule (kept_rule problem (children_of table name) (origins_of table name) name)) (keeps_kept problem graph) (λ node here.
+      kept-kept problem graph name node here (children_of table name) (edges-said name)
+      (λ child e at. ap (λ p. p.1) (found-ends ends_of graph.edges name child e at).1)
       (origins_of table name) (at-block name node here (block_of table name) refl (s.whole.facts.nodes name))))
     where
-      at-block : (name : Text) (node : Node) → node_of graph name ≡ Some node → (c : Option Block) → block_of table name ≡ c → SpellsAt v c (node_of graph name)
+      at-block : (name : Text) (node : Node) → node_of graph name ≡ Some node → (c : Option Block) → block_of table name ≡ c
+          → SpellsAt v c (node_of graph name)
           → In node.origin (origins_of table name)
       at-block name node here None is spells = absurd (let wrong : Some node ≡ None = sym here ∙ spells in cc)
       at-block name node here (Some b) is spells =

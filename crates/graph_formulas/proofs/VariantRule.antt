@@ -52,10 +52,12 @@ single (x ∷ []) = refl
 single (x ∷ y ∷ xs) = sym (ne_eqb (length (x ∷ y ∷ xs)) 1 (λ h. omega (arith, h)))
 
 module _ (problem : Problem) (graph : Content) (name : Text) (node : Node) (here : node_of graph name ≡ Some node) (variant : Text) where
-  count-kept : (kind : VariantKind) → keeps_rule (is_in graph) (count_rule name variant kind) ≡ is_count_of kind (length (values_at node.variants variant))
+  count-kept : (kind : VariantKind) → keeps_rule (is_in graph) (count_rule name variant kind)
+      ≡ is_count_of kind (length (values_at node.variants variant))
   count-kept kinds.Bool = there (world_of problem) graph name node here (has_single variant) ∙ single (values_at node.variants variant)
   count-kept kinds.Single = there (world_of problem) graph name node here (has_single variant) ∙ single (values_at node.variants variant)
-  count-kept kinds.Multi = there (world_of problem) graph name node here (has_value variant (λ value. true)) ∙ filled (values_at node.variants variant)
+  count-kept kinds.Multi = there (world_of problem) graph name node here (has_value variant (λ value. true))
+      ∙ filled (values_at node.variants variant)
 
   allows-kept : (row : VariantRow) → keeps_rule (is_in graph) (allows_rule name variant row) ≡ allows (values_at node.variants variant) row
   allows-kept row = rw (
@@ -65,7 +67,8 @@ module _ (problem : Problem) (graph : Content) (name : Text) (node : Node) (here
   ) refl
 
   -- the rule of one variant
-  pub variant-kept : keeps_rule (is_true (world_of problem) graph) (variant_rule problem name variant) ≡ keeps_one_variant problem graph node variant
+  pub variant-kept : keeps_rule (is_true (world_of problem) graph) (variant_rule problem name variant) ≡ keeps_one_variant problem
+      graph node variant
   unfolding governing
   variant-kept =
       let holds = λ (row : VariantRow). all_hold (world_of problem) row.when graph name in
@@ -73,10 +76,19 @@ module _ (problem : Problem) (graph : Content) (name : Text) (node : Node) (here
         there (world_of problem) graph name node here (has_variant variant),
         some-kept (is_true (world_of problem) graph) (λ row. met_rule name row.when) holds (λ row. refl) (definitions problem name variant),
         any-last holds (definitions problem name variant),
-        last-kept (is_true (world_of problem) graph) (λ row. known_rule (allows_rule name variant row)) (allows (values_at node.variants variant)) allows-kept (λ row. met_rule name row.when) holds (λ row. refl) (definitions problem name variant),
+        last-kept (is_true (world_of problem) graph) (λ row. known_rule (allows_rule name variant row))
+            (allows (values_at node.variants variant)) allows-kept (λ row. met_rule name row.when) holds (λ row. refl)
+            (definitions problem name variant),
         last-filter (λ row. bytes_eq row.name variant) holds (variants_at problem name),
-        not-or (is_some (find_last (λ row. bytes_eq row.name variant && holds row) (variants_at problem name))) (variant_there node.variants variant),
-        not-or (variant_there node.variants variant) (is_some_and (find_last (λ row. bytes_eq row.name variant && holds row) (variants_at problem name)) (allows (values_at node.variants variant))),
+        not-or (is_some (find_last (λ row. bytes_eq row.name variant && holds row) (variants_at problem name)))
+            (variant_there node.variants variant),
+        not-or (variant_there node.variants variant)
+            (is_some_and (find_last (λ row. bytes_eq row.name variant && holds row) (variants_at problem name))
+            (allows (values_at node.variants variant))),
       )
-      (ap (λ n. implies (is_some (find_last (λ (row : VariantRow). bytes_eq row.name variant && all_hold (world_of problem) row.when graph n) (variants_at problem n))) (variant_there node.variants variant)
-      && implies (variant_there node.variants variant) (is_some_and (find_last (λ (row : VariantRow). bytes_eq row.name variant && all_hold (world_of problem) row.when graph n) (variants_at problem n)) (allows (values_at node.variants variant)))) (sym (named-so graph name node here)))
+      (ap (λ n. implies
+      (is_some (find_last (λ (row : VariantRow). bytes_eq row.name variant && all_hold (world_of problem) row.when graph n)
+      (variants_at problem n))) (variant_there node.variants variant)
+      && implies (variant_there node.variants variant)
+      (is_some_and (find_last (λ (row : VariantRow). bytes_eq row.name variant && all_hold (world_of problem) row.when graph n)
+      (variants_at problem n)) (allows (values_at node.variants variant)))) (sym (named-so graph name node here)))

@@ -117,7 +117,8 @@ module _ (v : ℕ → Bool) (b : Block) (o : Option Node) (s : SpellsNode v b o)
   fact-said (has_variant variant) = variant-said variant
   fact-said (has_value variant test) = values-said v b o s variant test ∙ at-node o variant (list_any test) refl
   fact-said (has_single variant) =
-      one-said v (choice_lits (variant_choices b variant)) ∙ one-true v (variant_choices b variant) ∙ ap is_single (values-spelled v b o variant s)
+      one-said v (choice_lits (variant_choices b variant)) ∙ one-true v (variant_choices b variant)
+      ∙ ap is_single (values-spelled v b o variant s)
       ∙ at-node o variant is_single refl
   fact-said (has_variants variants) = variants-said variants
 

@@ -17,7 +17,8 @@ module _ (problem : Problem) where
 
   -- a declared version
   abbrev pub version_rule : Text → Proposition GraphWord
-  version_rule name = fact (node_has name (has_version (λ version. list_any (λ row. bytes_eq row.version version) (versions_at problem name))))
+  version_rule name =
+      fact (node_has name (has_version (λ version. list_any (λ row. bytes_eq row.version version) (versions_at problem name))))
 
   -- the entry's compiler, on an OS and for a target that it supports
   abbrev pub entry_rule : Text → CompilerEntry → Proposition GraphWord

@@ -19,7 +19,8 @@ no_kinds = record { build = false; link = false; run = false }
 
 -- a name asks for this child, where that is there: it is the child's own, or that of a virtual which the child provides
 abbrev pub asked_child : World → Text → Text → Proposition GraphWord
-asked_child world child asked = if is_virtual world.recipes asked then fact (provides_as asked child) else settled_test (bytes_eq asked child)
+asked_child world child asked = if is_virtual world.recipes asked then fact (provides_as asked child) else settled_test
+    (bytes_eq asked child)
 
 module _ (problem : Problem) (packages : Text → List Text) where
   -- the row holds at the node and asks for this child, where that is there

@@ -1,5 +1,5 @@
 -- The rule of kept nodes, and of the prefix of built ones.
-use Rattle.std.specs.Prelude.{Bool, true, false, ◌==◌, List, [], Option, Some, None, is_none, slice_get}
+use Rattle.std.specs.Prelude.{Bool, true, false, List, [], Option, Some, None, is_none, slice_get}
 use Rattle.std.specs.List.{list_any}
 use Rattle.std.specs.Option.{option_eq}
 use Rattle.std.specs.Str.{bytes_eq}
@@ -11,6 +11,7 @@ use Rattle.reuse_db.specs.declared.record.Dependency.{Dependency}
 use Rattle.graph_core.specs.declared.node.Origin.{Origin}
 use Rattle.graph_core.specs.declared.node.Origin.TheVariants.{Built, External, Installed}
 use Rattle.condition_rules.specs.Words.{is_some_and}
+use Rattle.problem.specs.Nodes.{same_origin}
 use Rattle.problem.specs.Problems.{Problem, package_entry_of, externals_in, record_at, same_compiler}
 use Rattle.problem.specs.Records.{kept_dependencies}
 use Rattle.reuse_db.specs.declared.record.Record.{Record}
@@ -23,17 +24,6 @@ use Rattle.graph_formulas.specs.Lists.{◌and◌, settled_test, one_keeps, each_
 use Rattle.graph_formulas.specs.Edges.{no_kinds}
 
 -- ---- origins
-
-abbrev pub same_origin : Origin → Origin → Bool
-same_origin Built Built = true
-same_origin Built (External place) = false
-same_origin Built (Installed hash) = false
-same_origin (External place) Built = false
-same_origin (External place) (External other) = place == other
-same_origin (External place) (Installed hash) = false
-same_origin (Installed hash) Built = false
-same_origin (Installed hash) (External place) = false
-same_origin (Installed hash) (Installed other) = bytes_eq hash other
 
 abbrev pub installs : Text → Origin → Bool
 installs hash origin = elim origin [ Built ↦ false | External place ↦ false | Installed h ↦ bytes_eq h hash ]

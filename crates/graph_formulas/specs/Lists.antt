@@ -17,10 +17,6 @@ abbrev pub asked_unless : {W : Type 0} → Bool → Proposition W → Propositio
 asked_unless true rule = isnt nowhere
 asked_unless false rule = rule
 
-abbrev pub is_filled : {T : Type 0} → List T → Bool
-is_filled [] = false
-is_filled (x ∷ xs) = true
-
 -- what is not written asks nothing
 abbrev pub where_written : {W T : Type 0} → Option T → (T → Proposition W) → Proposition W
 where_written None rule = isnt nowhere

@@ -15,7 +15,8 @@ use Rattle.condition_rules.specs.Meets.{meets_platform, lists_overlap, is_compil
 use Rattle.recipe_data.specs.OfSpecGrammar.Condition.{Condition}
 use Rattle.recipe_data.specs.declared.recipe.ProvideRow.{ProvideRow}
 use Rattle.graph_formulas.specs.Facts.{GraphWord, is_there, has_version, has_variant, has_value, has_compiler, has_os, has_target, node_has, provides_as, has_path}
-use Rattle.graph_formulas.specs.Lists.{◌and◌, settled_test, asked_unless, is_filled, where_written, one_keeps, each_keeps, some}
+use Rattle.graph_formulas.specs.Lists.{◌and◌, settled_test, asked_unless, where_written, one_keeps, each_keeps, some}
+use Rattle.problem.specs.Closure.{is_filled}
 
 -- ---- at the node of a name
 

@@ -98,13 +98,15 @@ pub fn structure_laws()
         (condition : Text → Condition → Statement) (table : Table) (graph : Content)
         → SpellsProblem problem v path condition table graph
         → all_say v path condition table
-        (λ name. where_built name (extra_edges_rule problem (names_for table) (virtuals_on table name) (children_of table name) name))
+        (λ name. where_built name (extra_edges_rule problem (names_for table)
+        (virtuals_on table name) (children_of table name) name))
         (table_names table) ≡ keeps rules.ExtraEdge problem graph }
     ensures kept { (problem : Problem) (v : ℕ → Bool) (path : Text → Text → Statement)
         (condition : Text → Condition → Statement) (table : Table) (graph : Content)
         → SpellsProblem problem v path condition table graph
         → all_say v path condition table
-        (λ name. where_there name (known_rule (kept_rule problem (children_of table name) (origins_of table name) name)))
+        (λ name. where_there name (known_rule
+        (kept_rule problem (children_of table name) (origins_of table name) name)))
         (table_names table) ≡ keeps rules.Kept problem graph }
     ensures provider { (problem : Problem) (v : ℕ → Bool) (path : Text → Text → Statement)
         (condition : Text → Condition → Statement) (table : Table) (graph : Content)

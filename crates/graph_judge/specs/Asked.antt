@@ -1,14 +1,10 @@
 -- Demands by their numbers.
-use Rattle.std.specs.Prelude.{Bool, ℕ, List, filter_map, slice_get}
+use Rattle.std.specs.Prelude.{Bool, ℕ, slice_get}
 use Rattle.condition_rules.specs.Words.{is_some_and}
 use Rattle.problem.specs.Demands.{demands}
 use Rattle.problem.specs.Problems.{Problem}
 use Rattle.problem.specs.declared.demand.Demand.{Demand}
 use Rattle.graph_rules.specs.Verdict.{same_demand}
-
--- the demands of these numbers; one that no demand has asks nothing
-abbrev pub asked_of : Problem → List ℕ → List Demand
-asked_of problem ids = filter_map (slice_get (demands problem)) ids
 
 -- the number is that of this demand
 abbrev pub is_numbered : Problem → Demand → ℕ → Bool

@@ -4,9 +4,9 @@ ghost use Rattle.std.specs.List.{list_any};
 ghost use Rattle.std.specs.Option.{option_copied};
 ghost use Rattle.condition_rules.specs.Words.{is_some_and};
 ghost use Rattle.problem.specs.declared.demand.Demand.TheVariants.{Root, Directive, Setting};
-ghost use Rattle.problem.specs.Demands.{demands};
+ghost use Rattle.problem.specs.Demands.{demands, demands_at};
 ghost use Rattle.graph_rules.specs.Verdict.{all_asked, is_among, same_demand};
-ghost use Rattle.graph_judge.specs.Asked.{asked_of, is_numbered};
+ghost use Rattle.graph_judge.specs.Asked.{is_numbered};
 
 use problem::{Demand, Problem};
 
@@ -123,25 +123,25 @@ fn some_setting(problem: &Problem, ids: &[u64], name: &str, place: u64) -> bool
 }
 
 fn is_root_listed(problem: &Problem, ids: &[u64], place: u64) -> bool
-    ensures { result ≡ is_among (asked_of problem.now ids.now) (Root place) }
+    ensures { result ≡ is_among (demands_at problem.now ids.now) (Root place) }
 {
     some_root(problem, ids, place)
 }
 
 fn is_directive_listed(problem: &Problem, ids: &[u64], name: &str, number: u64) -> bool
-    ensures { result ≡ is_among (asked_of problem.now ids.now) (Directive name.now number) }
+    ensures { result ≡ is_among (demands_at problem.now ids.now) (Directive name.now number) }
 {
     some_directive(problem, ids, name, number)
 }
 
 fn is_setting_listed(problem: &Problem, ids: &[u64], name: &str, place: u64) -> bool
-    ensures { result ≡ is_among (asked_of problem.now ids.now) (Setting name.now place) }
+    ensures { result ≡ is_among (demands_at problem.now ids.now) (Setting name.now place) }
 {
     some_setting(problem, ids, name, place)
 }
 
 impl<'a> AskedDemands for Listed<'a> {
-    ghost asks = { λ listed. is_among (asked_of listed.problem.now listed.ids.now) };
+    ghost asks = { λ listed. is_among (demands_at listed.problem.now listed.ids.now) };
 
     fn asks_root(&self, place: u64) -> bool {
         is_root_listed(self.problem, self.ids, place)

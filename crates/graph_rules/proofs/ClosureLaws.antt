@@ -35,7 +35,7 @@ use Rattle.graph_rules.specs.Kept.{same_attributes, installed_node, is_child, ke
 use Rattle.problem.specs.Records.{kept_dependencies}
 use Rattle.graph_rules.specs.Whole.{keeps_provider, keeps_reachable}
 use Rattle.graph_rules.specs.Valid.{keeps, keeps_all, structure_rules}
-use Rattle.problem.specs.Closure.{is_some_list, is_known, possible_providers, possible_children, kept_names, next_names, has_known, is_closed}
+use Rattle.problem.specs.Closure.{is_filled, is_known, possible_providers, possible_children, kept_names, next_names, has_known, is_closed}
 use Rattle.problem.specs.OfReuseDb.Record.{Record}
 use Rattle.graph_rules.specs.declared.rule.Rule.{Rule}
 use Rattle.graph_rules.specs.declared.rule.Rule.TheVariants as rules
@@ -69,7 +69,7 @@ module _ (problem : Problem) (graph : Content) (g : IsGraph graph) (k : keeps_al
       let found = some-and (slice_get (externals_in (package_entry_of problem node.name)) place) _ (and_parts _ _ h).0 in
       or_left _ _ (or_right _ _ (is_there (externals_in (package_entry_of problem node.name)) place found.0 found.1))
     where
-      is_there : {T : Type 0} (xs : List T) (i : ℕ) (x : T) → slice_get xs i ≡ Some x → is_some_list xs ≡ true
+      is_there : {T : Type 0} (xs : List T) (i : ℕ) (x : T) → slice_get xs i ≡ Some x → is_filled xs ≡ true
       is_there [] i x none = absurd (let wrong : None ≡ Some x = none in cc)
       is_there (y ∷ ys) i x is = refl
   known-by node there (Installed hash) e h =

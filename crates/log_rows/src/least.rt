@@ -1,9 +1,10 @@
-//! `search BUDGET VARS BITS.. 0 CLAUSES..`: the least bits;
+//! `search BUDGET VARS BITS.. 0 CLAUSES..`: the least bits; `trim` and the same words: with the shorter log;
 //! `numbers BUDGET VARS ENDS.. 0 PARTS.. 0 BITS.. 0 CLAUSES..`: the same where the bits spell
 //! numbers that end before these places, each with these parts; `within` and the same words: only
 //! what was found, so that these rows show how much a search has to learn.
 use crate::input::{are_below, clauses_of, lits_of, number_of, places_of};
 use crate::output::{push_line, push_log, push_model, said_no};
+use log_trim::trim_found;
 use optimum_search::{Found, Number, Untold, search, search_by_numbers};
 use plain_data::List;
 use std::alloc::{AllocError, Global};
@@ -22,6 +23,24 @@ pub fn answer(
     }
     let found = search(alloc, &clauses, &bits, number_of(budget))?;
     text_of(alloc, &found)
+}
+
+/// What `search` finds, with the log that `trim_found` leaves of its log.
+pub fn answer_trimmed(
+    alloc: Global,
+    budget: &str,
+    vars: &str,
+    words: &[&str],
+) -> Result<Vec<u8>, AllocError> {
+    let (bits, rest) = lits_of(alloc, number_of(vars), words)?;
+    let clauses = clauses_of(alloc, number_of(vars), rest)?;
+    if !are_below(&bits, clauses.vars()) {
+        return said_no(alloc);
+    }
+    let budget = number_of(budget);
+    let found = search(alloc, &clauses, &bits, budget)?;
+    let short = trim_found(alloc, &clauses, &bits, budget, found)?;
+    text_of(alloc, &short)
 }
 
 /// What `search_by_numbers` finds.

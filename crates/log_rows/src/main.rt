@@ -39,6 +39,7 @@ fn answer<R: Threads + Sync>(rt: &R, alloc: Global, line: &str) -> Result<Vec<u8
     let words: Vec<&str> = line.split_whitespace().collect(alloc)?;
     match words.as_slice() {
         ["search", budget, vars, rest @ ..] => least::answer(alloc, budget, vars, rest),
+        ["trim", budget, vars, rest @ ..] => least::answer_trimmed(alloc, budget, vars, rest),
         ["numbers", budget, vars, rest @ ..] => least::answer_numbers(alloc, budget, vars, rest),
         ["within", budget, vars, rest @ ..] => least::answer_within(alloc, budget, vars, rest),
         ["log", piece, vars, rest @ ..] => logs::answer(alloc, piece, vars, rest),

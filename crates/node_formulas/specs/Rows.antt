@@ -6,7 +6,7 @@ use Rattle.graph_core.specs.Graphs.{Text}
 use Rattle.literal_table.specs.Tables.{Table}
 use Rattle.graph_formulas.specs.Facts.{is_there, has_origin, provides_as}
 use Rattle.graph_formulas.specs.Words.{names_for}
-use Rattle.graph_formulas.specs.Terms.{builds}
+use Rattle.problem.specs.Nodes.{builds}
 use Rattle.graph_formulas.specs.Laws.{table_names, virtuals_of}
 use Rattle.word_formulas.specs.Builders.{node_said, plain_said}
 

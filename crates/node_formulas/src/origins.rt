@@ -1,7 +1,8 @@
 // Tests of origins.
 ghost use Rattle.std.specs.Prelude.{◌≡◌};
-ghost use Rattle.graph_core.specs.declared.node.Origin.TheVariants.{Built, External, Installed};
-ghost use Rattle.graph_formulas.specs.Kept.{installs, same_origin};
+ghost use Rattle.graph_core.specs.declared.node.Origin.TheVariants.{External, Installed};
+ghost use Rattle.graph_formulas.specs.Kept.{installs};
+ghost use Rattle.problem.specs.Nodes.{same_origin};
 
 use graph_core::Origin;
 use spec_hash::Hash;
@@ -14,12 +15,6 @@ pub(crate) fn installs(hash: &Hash, origin: &Origin) -> bool
         Origin::Installed(own) => own.as_str() == hash.as_str(),
         Origin::Built | Origin::External(_) => false,
     }
-}
-
-fn is_built(origin: &Origin) -> bool
-    ensures { result ≡ same_origin Built origin.now }
-{
-    matches!(origin, Origin::Built)
 }
 
 fn is_external(place: u64, origin: &Origin) -> bool
@@ -45,7 +40,7 @@ pub(crate) fn same_origin(origin: &Origin, other: &Origin) -> bool
     ensures { result ≡ same_origin origin.now other.now }
 {
     match origin {
-        Origin::Built => is_built(other),
+        Origin::Built => matches!(other, Origin::Built),
         Origin::External(place) => is_external(*place, other),
         Origin::Installed(hash) => is_installed(hash, other),
     }

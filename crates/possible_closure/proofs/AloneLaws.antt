@@ -1,5 +1,5 @@
 -- The names of one requested spec, among those of all.
-use Rattle.std.proofs.Common.{◌≡◌, refl, ap, ◌∙◌, ℕ, zero, suc, ◌≤◌, arith, length, Bool, true, false, ◌||◌, cond, List, [], ◌∷◌, filter, filter_map}
+use Rattle.std.proofs.Common.{◌≡◌, refl, ℕ, zero, suc, ◌≤◌, arith, length, Bool, true, false, ◌||◌, cond, List, [], ◌∷◌, filter, filter_map}
 use Rattle.std.proofs.lemmas.Bool.{false≢true}
 use Rattle.std.specs.Prelude.{slice_get, Option, Some, None}
 use Rattle.std.specs.List.{cons_option, list_any}
@@ -10,7 +10,7 @@ use Rattle.spec_grammar.specs.declared.part.Spec.{Spec}
 use Rattle.problem.specs.Closure.{is_known, next_names}
 use Rattle.problem.specs.Problems.{Problem, alone, apart, package_entry_of, record_at}
 use Rattle.problem.proofs.AssembledLaws.{root_apart}
-use Rattle.possible_closure.specs.Closures.{brings, closure_of, is_needed, known_names, root_names}
+use Rattle.possible_closure.specs.Closures.{brings, closure_of, is_needed, known_names}
 
 one_step : {X : Type 0} (x : X) (b c : Bool) (ps qs : List X) → (b ≡ true → c ≡ true) → length ps ≤ length qs
     → length (cond b (x ∷ ps) ps) ≤ length (cond c (x ∷ qs) qs)

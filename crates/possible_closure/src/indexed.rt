@@ -3,7 +3,7 @@ ghost use Rattle.std.specs.Prelude.{◌≡◌, map, filter, IfOk};
 ghost use Rattle.std.specs.List.{list_any};
 ghost use Rattle.std.specs.Option.{option_copied};
 ghost use Rattle.std.specs.Str.{bytes_eq};
-ghost use Rattle.problem.specs.Closure.{is_known, is_some_list};
+ghost use Rattle.problem.specs.Closure.{is_known, is_filled};
 ghost use Rattle.problem.specs.Problems.{package_entry_of, externals_in};
 ghost use Rattle.keyed_lists.specs.Lent.{lent, IsIndexOf};
 
@@ -103,7 +103,7 @@ fn records_by_name<'a>(
 }
 
 fn has_external(entry: Option<&PackageEntry>) -> bool
-    ensures { result ≡ is_some_list (externals_in (option_copied entry.entry)) }
+    ensures { result ≡ is_filled (externals_in (option_copied entry.entry)) }
 {
     match entry {
         Some(entry) => matches!(entry.externals.as_slice(), [_, ..]),

@@ -11,14 +11,15 @@ use Rattle.problem.specs.Problems.{recipe_at, depends_at, package_entry_of, exte
 use Rattle.problem.specs.Records.{kept_dependencies}
 use Rattle.reuse_db.specs.declared.record.Record.{Record}
 
-abbrev pub is_some_list : {T : Type 0} → List T → Bool
-is_some_list [] = false
-is_some_list (x ∷ xs) = true
+-- the list has an element
+abbrev pub is_filled : {T : Type 0} → List T → Bool
+is_filled [] = false
+is_filled (x ∷ xs) = true
 
 -- a recipe, an external or a record has the name
 unfoldable pub is_known : Problem → Text → Bool
 is_known problem name =
-    is_some (recipe_at problem name) || is_some_list (externals_in (package_entry_of problem name))
+    is_some (recipe_at problem name) || is_filled (externals_in (package_entry_of problem name))
     || list_any (λ entry. bytes_eq entry.name name) problem.database
 
 -- the packages whose recipe provides the virtual

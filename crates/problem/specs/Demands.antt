@@ -1,5 +1,5 @@
 -- What may be demanded of a graph: that a root's spec holds, that a directive is kept, and what the settings ask.
-use Rattle.std.specs.Prelude.{◌≡◌, ℕ, List, ◌++◌, map, flat_map, length}
+use Rattle.std.specs.Prelude.{◌≡◌, ℕ, List, ◌++◌, map, filter_map, flat_map, length, slice_get}
 use Rattle.std.specs.List.{range_with_len}
 use Rattle.condition_rules.specs.OfConditions.Right.{numbers_of}
 use Rattle.condition_rules.specs.OfConditions.Recipe.{Recipe}
@@ -20,6 +20,10 @@ settings_of packages = flat_map (λ entry. map (demand.Setting entry.name) (rang
 unfoldable pub demands : Problem → List Demand
 demands problem = (map demand.Root (range_with_len 0 (length problem.roots)) ++ directives_of problem.recipes)
     ++ settings_of problem.settings.packages
+
+-- those of these numbers; one that no demand has asks nothing
+abbrev pub demands_at : Problem → List ℕ → List Demand
+demands_at problem numbers = filter_map (slice_get (demands problem)) numbers
 
 -- a list of just the demands, in their order, where so many specs are requested
 abbrev pub AreDemandsOfMost : ℕ → List Recipe → List PackageEntry → List Demand → Type 0

@@ -1,17 +1,33 @@
 -- Words on nodes and kinds.
-use Rattle.std.specs.Prelude.{Bool, true, false, ◌&&◌, All}
+use Rattle.std.specs.Prelude.{Bool, true, false, ◌&&◌, ◌==◌, All}
 use Rattle.std.specs.Str.{bytes_eq}
 use Rattle.condition_rules.specs.OfVariantValues.Texts.{IsInByteOrder}
 use Rattle.condition_rules.specs.OfGraphCore.Graphs.{Text, Content, IsGraph}
 use Rattle.condition_rules.specs.OfGraphCore.Node.{Node}
 use Rattle.condition_rules.specs.OfGraphCore.Kinds.{Kinds}
+use Rattle.graph_core.specs.declared.node.Origin.{Origin}
 use Rattle.condition_rules.specs.OfGraphCore.OriginVariants.{Built, External, Installed}
 use Rattle.condition_rules.specs.Words.{implies}
 pub use Rattle.graph_core.specs.Graphs.{has_kind}
 
+-- it is that of the nodes to build
+abbrev pub builds : Origin → Bool
+builds origin = elim origin [ Built ↦ true | External place ↦ false | Installed hash ↦ false ]
+
+abbrev pub same_origin : Origin → Origin → Bool
+same_origin Built Built = true
+same_origin Built (External place) = false
+same_origin Built (Installed hash) = false
+same_origin (External place) Built = false
+same_origin (External place) (External other) = place == other
+same_origin (External place) (Installed hash) = false
+same_origin (Installed hash) Built = false
+same_origin (Installed hash) (External place) = false
+same_origin (Installed hash) (Installed other) = bytes_eq hash other
+
 -- the node is to be built
 abbrev pub is_built : Node → Bool
-is_built node = elim node.origin [ Built ↦ true | External place ↦ false | Installed hash ↦ false ]
+is_built node = builds node.origin
 
 -- the node is the installed one of this hash
 abbrev pub is_installed : Text → Node → Bool

@@ -1,5 +1,5 @@
 -- A problem, and what is looked up in it.
-use Rattle.std.specs.Prelude.{Bool, true, ◌&&◌, ℕ, ◌+◌, List, [], ◌∷◌, map, find, Option, Some, None, option_and_then}
+use Rattle.std.specs.Prelude.{Bool, true, ◌&&◌, ℕ, ◌+◌, List, [], ◌∷◌, map, filter_map, find, Option, Some, None, option_and_then}
 use Rattle.std.specs.Str.{bytes_eq}
 use Rattle.condition_rules.specs.OfGraphCore.Graphs.{Text, Content}
 use Rattle.condition_rules.specs.OfGraphCore.Node.{Node}
@@ -32,6 +32,10 @@ pub record Problem : Type 0 where
 
 abbrev pub problem_of : List Recipe → Settings → List Record → List Spec → Problem
 problem_of recipes settings database roots = record { recipes = recipes; settings = settings; database = database; roots = roots }
+
+-- the names of the requested specs
+abbrev pub root_names : Problem → List Text
+root_names problem = filter_map (λ spec. spec.top.name) problem.roots
 
 -- what conditions are read against
 abbrev pub world_of : Problem → World

@@ -2,7 +2,7 @@
 ghost use Rattle.std.specs.Prelude.{◌≡◌};
 ghost use Rattle.std.specs.List.{list_any};
 ghost use Rattle.std.specs.Str.{bytes_eq};
-ghost use Rattle.problem.specs.Closure.{is_known, is_some_list};
+ghost use Rattle.problem.specs.Closure.{is_known, is_filled};
 ghost use Rattle.problem.specs.Problems.{package_entry_of, externals_in};
 
 use crate::Problem;
@@ -10,8 +10,8 @@ use crate::lookup::entry_of;
 use reuse_db::Record;
 use site_settings::ExternalEntry;
 
-fn is_some_list(entries: &[ExternalEntry]) -> bool
-    ensures { result ≡ is_some_list entries.now }
+fn is_filled(entries: &[ExternalEntry]) -> bool
+    ensures { result ≡ is_filled entries.now }
 {
     match entries {
         [] => false,
@@ -20,10 +20,10 @@ fn is_some_list(entries: &[ExternalEntry]) -> bool
 }
 
 fn has_external(problem: &Problem, name: &str) -> bool
-    ensures { result ≡ is_some_list (externals_in (package_entry_of problem.now name.now)) }
+    ensures { result ≡ is_filled (externals_in (package_entry_of problem.now name.now)) }
 {
     match entry_of(problem, name) {
-        Some(entry) => is_some_list(entry.externals.as_slice()),
+        Some(entry) => is_filled(entry.externals.as_slice()),
         None => false,
     }
 }

@@ -3,8 +3,8 @@ use Rattle.std.specs.Prelude.{List}
 use Rattle.clause_store.specs.Clauses.{Clauses}
 use Rattle.clause_formulas.specs.declared.defined.Defined.{Defined}
 use Rattle.graph_core.specs.Graphs.{Text}
-use Rattle.problem.specs.Problems.{Problem}
-use Rattle.possible_closure.specs.Closures.{root_names, closure_of}
+use Rattle.problem.specs.Problems.{Problem, root_names}
+use Rattle.possible_closure.specs.Closures.{closure_of}
 use Rattle.literal_table.specs.Tables.{Table}
 use Rattle.ranked_costs.specs.Walks.{post_order}
 use Rattle.problem_formulas.specs.Given.{no_place}

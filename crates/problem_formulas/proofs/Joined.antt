@@ -14,9 +14,9 @@ use Rattle.literal_table.specs.Tables.{Table, block_name}
 use Rattle.literal_table.specs.declared.block.Block.{Block}
 use Rattle.graph_formulas.specs.Words.{names_for}
 use Rattle.graph_encoding.specs.Formulas.{PathFormulas}
-use Rattle.valid_models.specs.Targets.{spec_names, condition_names, choices_at, conditions_at, specs_at, targets_at, asked_targets, conditions_of}
+use Rattle.valid_models.specs.Targets.{spec_names, condition_names, choices_at, conditions_at, specs_at, targets_at, asked_targets}
 use Rattle.valid_models.specs.Joined.{condition_said}
-use Rattle.problem_formulas.specs.Asked.{formulas_at, formulas_of}
+use Rattle.problem_formulas.specs.Asked.{formulas_at}
 
 -- ---- lists
 

@@ -8,7 +8,8 @@ use Rattle.problem.specs.Problems.{Problem}
 use Rattle.literal_table.specs.Tables.{Table, table_names, children_of}
 use Rattle.graph_formulas.specs.Facts.{has_origin}
 use Rattle.graph_formulas.specs.Words.{names_for}
-use Rattle.graph_formulas.specs.Terms.{builds, known_rule, where_built}
+use Rattle.graph_formulas.specs.Terms.{known_rule, where_built}
+use Rattle.problem.specs.Nodes.{builds}
 use Rattle.graph_formulas.specs.Built.{version_rule, machine_rule}
 use Rattle.graph_formulas.specs.Edges.{extra_edges_rule, used_rule, of_provider}
 use Rattle.graph_formulas.specs.Together.{together_rule}

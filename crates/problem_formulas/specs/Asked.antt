@@ -1,9 +1,7 @@
 -- What the directives of a package ask for, list by list.
-use Rattle.std.specs.Prelude.{List, ◌++◌, map}
-use Rattle.std.specs.List.{flat_map}
+use Rattle.std.specs.Prelude.{List, map}
 use Rattle.clause_formulas.specs.Statements.{Statement}
 use Rattle.graph_core.specs.Graphs.{Text}
-use Rattle.recipe_data.specs.OfSpecGrammar.Condition.{Condition}
 use Rattle.problem.specs.Problems.{Problem}
 use Rattle.literal_table.specs.Tables.{Table}
 use Rattle.graph_encoding.specs.Formulas.{PathFormulas}

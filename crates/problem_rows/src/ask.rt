@@ -18,7 +18,9 @@ use crate::graph::graph_of;
 use crate::recipes::recipes_of;
 use crate::roots::problem_text;
 use crate::site::{Site, site_of};
-use condition_rules::{World, all_hold, asked_node, governing, holds, meets, meets_rest, provides};
+use condition_rules::{
+    Definitions, World, all_hold, asked_node, governing, holds, meets, meets_rest, provides,
+};
 use graph_core::{Graph, Node};
 use plain_data::List;
 use recipe_data::{Condition, Recipe};
@@ -129,12 +131,13 @@ fn all_text(
 
 fn governing_text(
     alloc: Global,
-    world: &World,
+    world: World,
     graph: &Graph,
     name: &str,
     variant: &str,
 ) -> Result<String, AllocError> {
-    match governing(alloc, world, graph, name, variant)? {
+    let definitions = Definitions::new(alloc, world, name)?;
+    match governing(alloc, &definitions, graph, variant)? {
         Some(row) => {
             let number = row.number;
             format!(in alloc; "{number}")
@@ -157,17 +160,17 @@ fn node_text(
 
 fn of_graph(
     alloc: Global,
-    world: &World,
+    world: World,
     graph: &Graph,
     what: &str,
     rest: &str,
 ) -> Result<String, AllocError> {
     let (name, more) = rest.split_once(' ').unwrap_or((rest, ""));
     match what {
-        "node" => node_text(alloc, world, graph, name),
-        "all" => all_text(alloc, world, graph, name, more),
+        "node" => node_text(alloc, &world, graph, name),
+        "all" => all_text(alloc, &world, graph, name, more),
         "governing" => governing_text(alloc, world, graph, name, more),
-        _ => spec_text(alloc, world, graph, what, name, more),
+        _ => spec_text(alloc, &world, graph, what, name, more),
     }
 }
 
@@ -189,7 +192,7 @@ fn of_world(
         recipes,
         providers,
     );
-    of_graph(alloc, &world, graph, what, rest)
+    of_graph(alloc, world, graph, what, rest)
 }
 
 fn found_over(

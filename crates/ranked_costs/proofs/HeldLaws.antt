@@ -8,7 +8,6 @@ use Rattle.std.proofs.lemmas.Bool.{false≢true}
 use Rattle.std.proofs.lemmas.List.{map-append, length-map, take-map, drop-map}
 use Rattle.std.proofs.lemmas.List.Concat.{flat_map-cons}
 use Rattle.std.proofs.lemmas.Simd.{map-map}
-use Rattle.clause_store.specs.Clauses.{Clauses}
 use Rattle.clause_formulas.specs.Statements.{Statement, eval}
 use Rattle.clause_formulas.specs.declared.defined.Defined.{Defined}
 use Rattle.clause_formulas.specs.Drafts.{statement_of, statement_at}

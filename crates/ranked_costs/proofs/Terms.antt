@@ -4,7 +4,7 @@ use Rattle.std.specs.List.{filter, flat_map, sum_by}
 use Rattle.std.specs.Str.{bytes_eq}
 use Rattle.std.proofs.lemmas.List.Sums.{sum_by-cons, length-filter, count_by-le-length}
 use Rattle.clause_store.specs.declared.Lit.{Lit}
-use Rattle.clause_formulas.specs.Statements.{Statement, atom, no, both_statements, any_statement, all_statements}
+use Rattle.clause_formulas.specs.Statements.{Statement, atom, no, both_statements, all_statements}
 use Rattle.graph_core.specs.Graphs.{Text}
 use Rattle.recipe_data.specs.declared.recipe.VariantRow.{VariantRow}
 use Rattle.condition_rules.specs.Words.{is_one_text}

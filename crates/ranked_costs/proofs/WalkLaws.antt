@@ -9,8 +9,8 @@ use Rattle.std.proofs.lemmas.Bool.{cases_Bool}
 use Rattle.std.proofs.lemmas.List.Sorted.{IsPermutation-refl, IsPermutation-sym, IsPermutation-trans, IsPermutation-cons, IsPermutation-middle, IsPermutation-append_right}
 use Rattle.graph_core.specs.Graphs.{Text}
 use Rattle.condition_rules.specs.Words.{is_one_text}
-use Rattle.literal_table.specs.Tables.{Table, children_of}
-use Rattle.ranked_costs.specs.Walks.{Walk, without_name, entered, leaving, visit, walked_names, first_walk, post_order}
+use Rattle.literal_table.specs.Tables.{Table, children_of, table_names}
+use Rattle.ranked_costs.specs.Walks.{Walk, without_name, entered, leaving, visit, first_walk, post_order}
 
 -- what is taken out stood there
 taken : (name : Text) (names : List Text) → is_one_text names name ≡ true → IsPermutation names (name ∷ without_name name names)
@@ -61,7 +61,7 @@ visit-keeps (suc fuel) table w name = elim (cases_Bool (is_one_text w.rest name)
 ]
 
 -- each name of the table stands in the order once
-pub each-name : (table : Table) (roots : List Text) → IsPermutation (walked_names table) (post_order table roots)
+pub each-name : (table : Table) (roots : List Text) → IsPermutation (table_names table) (post_order table roots)
 unfolding post_order
 each-name table roots =
     fold-keeps (visit (length table.blocks + 1) table) (visit-keeps (length table.blocks + 1) table) (first_walk table) roots

@@ -7,10 +7,10 @@ use Rattle.std.specs.Cmp.Lexicographic.{bytes_decides}
 use Rattle.std.proofs.lemmas.Bool.{cases_Bool}
 use Rattle.graph_core.specs.Graphs.{Text}
 use Rattle.condition_rules.specs.Words.{is_one_text}
-use Rattle.literal_table.specs.Tables.{Table, block_name}
+use Rattle.literal_table.specs.Tables.{Table, block_name, table_names}
 use Rattle.literal_table.specs.declared.block.Block.{Block}
 use Rattle.literal_table.specs.declared.block.EdgeLits.{EdgeLits}
-use Rattle.ranked_costs.specs.Walks.{Walk, without_name, entered, leaving, visit, walked_names, post_order}
+use Rattle.ranked_costs.specs.Walks.{Walk, without_name, entered, leaving, visit, post_order}
 use Rattle.ranked_costs.specs.Steps.{walk_at, visit_all}
 
 next : (name n : Text) (ns : List Text) → bytes_eq name n ≡ false
@@ -123,6 +123,6 @@ pub ordered : (table : Table) (roots rest left rest2 left2 new : List Text) (blo
     → new ≡ post_order table roots
 unfolding post_order
 ordered table roots rest left rest2 left2 new blocks blocks2 b b2 r l walked n =
-    let from : rest ≡ walked_names table = r ∙ ap (map block_name) b in
+    let from : rest ≡ table_names table = r ∙ ap (map block_name) b in
     n ∙ ap (λ w. w.left ++ w.rest) walked ∙ λ i. (fold (visit (length (b2 i) + 1) table) (walk_at (from i) (l i)) roots).left
     ++ (fold (visit (length (b2 i) + 1) table) (walk_at (from i) (l i)) roots).rest

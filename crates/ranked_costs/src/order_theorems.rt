@@ -2,11 +2,11 @@
 ghost use Rattle.std.specs.Prelude.{List};
 ghost use Rattle.std.specs.List.Sorted.{IsPermutation};
 ghost use Rattle.graph_core.specs.Graphs.{Text};
-ghost use Rattle.literal_table.specs.Tables.{Table};
-ghost use Rattle.ranked_costs.specs.Walks.{walked_names, post_order};
+ghost use Rattle.literal_table.specs.Tables.{Table, table_names};
+ghost use Rattle.ranked_costs.specs.Walks.{post_order};
 
 /// Each name of the table stands in the order once.
 pub fn order_laws()
     ensures each { (table : Table) (roots : List Text)
-        → IsPermutation (walked_names table) (post_order table roots) }
+        → IsPermutation (table_names table) (post_order table roots) }
 {}

@@ -3,8 +3,8 @@ ghost use Rattle.std.specs.Prelude.{◌≡◌, ◌++◌, ◌-◌, ◌+◌, map, 
 ghost use Rattle.std.specs.List.{fold, position_or_len};
 ghost use Rattle.std.specs.Str.{bytes_eq};
 ghost use Rattle.condition_rules.specs.Words.{is_one_text};
-ghost use Rattle.literal_table.specs.Tables.{block_name};
-ghost use Rattle.ranked_costs.specs.Walks.{without_name, visit, walked_names, first_walk, post_order};
+ghost use Rattle.literal_table.specs.Tables.{block_name, table_names};
+ghost use Rattle.ranked_costs.specs.Walks.{without_name, visit, first_walk, post_order};
 ghost use Rattle.ranked_costs.specs.Steps.{walk_at, visit_all};
 
 use literal_table::{Block, EdgeLits, LiteralTable};

@@ -1,5 +1,5 @@
 // All paths at once.
-ghost use Rattle.std.specs.Prelude.{◌≡◌, ℕ, ◌<◌, All, IfOk, MatchBool, IsTrue};
+ghost use Rattle.std.specs.Prelude.{◌≡◌, ℕ, ◌*◌, ◌^◌, ◌<◌, ◌≤◌, All, IfErr, IfOk, MatchBool, IsTrue};
 ghost use Rattle.reachability.specs.Places.{IsPathTable, leads};
 
 use crate::bits::Bits;
@@ -28,6 +28,17 @@ impl Model for PathTable {
     ghost invariant = { λ t. (length t.marks ≡ t.places * t.places) × (t.places * t.places < 2 ^ 64) };
 }
 
+/// How many pairs of places there are; beyond 64 bits want of memory.
+fn pairs_of(places: usize) -> Result<usize, AllocError>
+    ensures ok { IfOk result (λ pairs. pairs ≡ places * places) }
+    ensures cause { IfErr result (λ _. 2 ^ 64 ≤ places * places) }
+{
+    match places.checked_mul(places) {
+        Some(pairs) => Ok(pairs),
+        None => Err(AllocError),
+    }
+}
+
 impl PathTable {
     /// The table of the paths over these arcs.
     pub fn new(
@@ -39,9 +50,7 @@ impl PathTable {
         ensures { IfOk result (λ table. IsPathTable places arcs.now table) }
     {
         let heads = heads_of(alloc, places, arcs)?;
-        let Some(pairs) = places.checked_mul(places) else {
-            return Err(AllocError);
-        };
+        let pairs = pairs_of(places)?;
         let mut marks = Bits::new(alloc, pairs)?;
         for place in 0..places {
             search(alloc, heads.as_slice(), place, place * places, &mut marks)?;

@@ -1,2 +1,3 @@
 pub mod VariantLists
 pub mod Filters
+mod AskedTexts

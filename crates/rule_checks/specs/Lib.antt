@@ -1,3 +1,4 @@
 -- inside
 pub mod Records
 pub mod Kinds
+pub mod Asked

@@ -4,14 +4,18 @@ ghost use Rattle.std.specs.List.{list_all, list_any};
 ghost use Rattle.std.specs.Str.{bytes_eq};
 ghost use Rattle.condition_rules.specs.Words.{is_some_and};
 ghost use Rattle.problem.specs.Nodes.{has_kind};
-ghost use Rattle.problem.specs.Problems.{asked_by};
+ghost use Rattle.problem.specs.Problems.{asked_by, depends_at};
 ghost use Rattle.virtuals.specs.Virtuals.{is_virtual};
 ghost use Rattle.graph_rules.specs.Built.{asks, asked_kinds, is_asked, is_asked_virtual};
 ghost use Rattle.graph_rules.specs.Built.{keeps_extra_edge, names_virtual};
+ghost use Rattle.keyed_lists.specs.Lent.{IsIndexOf};
+ghost use Rattle.rule_checks.specs.Asked.{asked_text};
 ghost use Rattle.rule_checks.specs.Kinds.{joined};
 
+use crate::asked_rows::rows_by_text;
 use condition_rules::Paths;
 use graph_core::{Edge, Kinds, Node};
+use keyed_lists::TextIndex;
 use plain_data::Word;
 use problem::{Explored, Problem, applies, asked_by, covers, depends_at};
 use recipe_data::DependRow;
@@ -129,14 +133,14 @@ fn some_asks(
     node: &Node,
     child: &str,
     name: &Word,
-    rows: &[DependRow],
+    rows: &[(&str, &DependRow)],
 ) -> Result<bool, AllocError>
     ensures { IfOk result (λ answer. answer
-        ≡ list_any (λ row. names_virtual problem.now name.now row
-        && asks problem.now graph.now node.now child.now row) rows.now) }
+        ≡ list_any (λ row. names_virtual problem.now name.now row.1.now
+        && asks problem.now graph.now node.now child.now row.1.now) rows.now) }
 {
     for row in rows {
-        if asks_by(alloc, problem, graph, node, child, name, row)? {
+        if asks_by(alloc, problem, graph, node, child, name, row.1)? {
             return Ok(true);
         }
     }
@@ -149,14 +153,23 @@ fn is_asked_virtual(
     problem: &Problem,
     graph: &Explored,
     node: &Node,
+    rows: &TextIndex<DependRow>,
     child: &str,
     name: &Word,
 ) -> Result<bool, AllocError>
+    requires { IsIndexOf asked_text (depends_at problem.now node.now.name) rows.now }
     ensures { IfOk result (λ answer. answer ≡ is_asked_virtual problem.now graph.now node.now
         child.now name.now) }
 {
-    let rows = depends_at(problem, node.name.as_str());
-    some_asks(alloc, problem, graph, node, child, name, rows)
+    some_asks(
+        alloc,
+        problem,
+        graph,
+        node,
+        child,
+        name,
+        rows.of(name.as_str()),
+    )
 }
 
 /// Whether that is so of each of these virtuals.
@@ -165,14 +178,16 @@ fn asks_each(
     problem: &Problem,
     graph: &Explored,
     node: &Node,
+    rows: &TextIndex<DependRow>,
     child: &str,
     virtuals: &[Word],
 ) -> Result<bool, AllocError>
+    requires { IsIndexOf asked_text (depends_at problem.now node.now.name) rows.now }
     ensures { IfOk result (λ answer. answer
         ≡ list_all (is_asked_virtual problem.now graph.now node.now child.now) virtuals.now) }
 {
     for name in virtuals {
-        if !is_asked_virtual(alloc, problem, graph, node, child, name)? {
+        if !is_asked_virtual(alloc, problem, graph, node, rows, child, name)? {
             return Ok(false);
         }
     }
@@ -185,8 +200,10 @@ fn is_asked(
     problem: &Problem,
     graph: &Explored,
     node: &Node,
+    by_text: &TextIndex<DependRow>,
     edge: &Edge,
 ) -> Result<bool, AllocError>
+    requires { IsIndexOf asked_text (depends_at problem.now node.now.name) by_text.now }
     ensures { IfOk result (λ answer. answer ≡ is_asked problem.now graph.now node.now edge.now) }
 {
     if !has_kind(edge.kinds) {
@@ -197,7 +214,15 @@ fn is_asked(
     let kinds = asked_kinds(alloc, problem, graph, node, child, rows)?;
     Ok(
         covers(kinds, edge.kinds)
-            && asks_each(alloc, problem, graph, node, child, edge.virtuals.values())?,
+            && asks_each(
+                alloc,
+                problem,
+                graph,
+                node,
+                by_text,
+                child,
+                edge.virtuals.values(),
+            )?,
     )
 }
 
@@ -207,13 +232,15 @@ fn all_asked(
     problem: &Problem,
     graph: &Explored,
     node: &Node,
+    by_text: &TextIndex<DependRow>,
     edges: &[Edge],
 ) -> Result<bool, AllocError>
+    requires { IsIndexOf asked_text (depends_at problem.now node.now.name) by_text.now }
     ensures { IfOk result (λ answer. answer
         ≡ list_all (is_asked problem.now graph.now node.now) edges.now) }
 {
     for edge in edges {
-        if !is_asked(alloc, problem, graph, node, edge)? {
+        if !is_asked(alloc, problem, graph, node, by_text, edge)? {
             return Ok(false);
         }
     }
@@ -231,5 +258,7 @@ pub fn keeps_extra_edge(
     ensures { IfOk result (λ answer. answer ≡ keeps_extra_edge problem.now graph.now node.now) }
 {
     let edges = graph.graph().edges_from(node.name.as_str());
-    all_asked(alloc, problem, graph, node, edges)
+    let rows = depends_at(problem, node.name.as_str());
+    let by_text = rows_by_text(alloc, rows)?;
+    all_asked(alloc, problem, graph, node, &by_text, edges)
 }

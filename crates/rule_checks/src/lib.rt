@@ -4,10 +4,11 @@
 //! them.
 //! What it promises: each answers what its definition computes, and errs for want of memory alone.
 //! What it stands on: `graph_rules` for the definitions, `problem` for what is looked up,
-//! `condition_rules` for conditions.
+//! `condition_rules` for conditions, `keyed_lists` for rows by the names that they ask for.
 //! What it must not know: the order of the rules, which place is named, costs.
 #![tactic(auto)]
 
+mod asked_rows;
 mod built;
 mod directives;
 mod edges;

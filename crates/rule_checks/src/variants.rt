@@ -3,13 +3,14 @@ ghost use Rattle.std.specs.Prelude.{◌≡◌, IfOk, map, filter};
 ghost use Rattle.std.specs.List.{list_all};
 ghost use Rattle.std.specs.Str.{bytes_eq};
 ghost use Rattle.std.specs.Cmp.Lexicographic.{pointwise};
-ghost use Rattle.condition_rules.specs.Words.{includes};
+ghost use Rattle.condition_rules.specs.Words.{includes, is_some_and};
+ghost use Rattle.condition_rules.specs.Holds.{governing};
 ghost use Rattle.recipe_data.specs.Right.{is_count_of};
 ghost use Rattle.problem.specs.Problems.{applies};
 ghost use Rattle.graph_rules.specs.Built.{governed, allows, is_allowed, has_governed};
 ghost use Rattle.graph_rules.specs.Built.{keeps_variant};
 
-use condition_rules::governing;
+use condition_rules::{Definitions, governing};
 use graph_core::Node;
 use plain_data::{Duplicate, Word};
 use problem::{Explored, Problem, applies, names_of, variants_at};
@@ -91,24 +92,26 @@ fn allows(values: &ValueSet, row: &VariantRow) -> bool
     includes(&row.values, values) && is_count_of(row.kind, values.len())
 }
 
+/// Whether the definition that governs a variant allows its values.
 fn is_allowed(
     alloc: Global,
-    problem: &Problem,
+    definitions: &Definitions,
     graph: &Explored,
-    node: &Node,
     variant: &(Word, ValueSet),
 ) -> Result<bool, AllocError>
-    ensures { IfOk result (λ answer. answer ≡ is_allowed problem.now graph.now node.now
-        variant.now) }
+    ensures { IfOk result (λ answer. answer ≡ is_some_and
+        (governing definitions.now.0 graph.now definitions.now.1 variant.now.0)
+        (allows variant.now.1)) }
 {
-    let world = problem.world();
-    match governing(alloc, &world, graph, node.name.as_str(), variant.0.as_str())? {
+    match governing(alloc, definitions, graph, variant.0.as_str())? {
         Some(row) => Ok(allows(&variant.1, row)),
         None => Ok(false),
     }
 }
 
 /// Whether each variant has values that the row that governs it allows.
+///
+/// Takes n log n comparisons for n definitions and variants.
 fn all_allowed(
     alloc: Global,
     problem: &Problem,
@@ -119,8 +122,9 @@ fn all_allowed(
     ensures { IfOk result (λ answer. answer ≡ list_all (is_allowed problem.now graph.now node.now)
         variants.now) }
 {
+    let definitions = Definitions::new(alloc, problem.world(), node.name.as_str())?;
     for variant in variants {
-        if !is_allowed(alloc, problem, graph, node, variant)? {
+        if !is_allowed(alloc, &definitions, graph, variant)? {
             return Ok(false);
         }
     }

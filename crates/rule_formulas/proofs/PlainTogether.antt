@@ -1,5 +1,5 @@
 -- The rule of providers by directives that name several virtuals speaks of no path.
-use Rattle.std.proofs.Common.{◌≡◌, ap, Bool, true, not, None, filter}
+use Rattle.std.proofs.Common.{◌≡◌, ap, not, None, filter}
 use Rattle.std.specs.Prelude.{◌==◌}
 use Rattle.std.specs.Str.{bytes_eq}
 use Rattle.clause_formulas.specs.Statements.{Statement, implication_of}

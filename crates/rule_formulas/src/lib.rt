@@ -5,8 +5,8 @@
 //! What it promises: each builder answers the formula that the definition of its name in
 //! `graph_formulas` computes, where the formulas of paths are those of the literals that levels
 //! gave, and conditions have formulas (`MetConditions`); each errs for want of memory alone.
-//! What it stands on: `word_formulas` for parts and rows, `graph_levels` for paths, the index of
-//! `keyed_lists` for definitions of variants.
+//! What it stands on: `word_formulas` for parts and rows, `graph_levels` for paths,
+//! `condition_rules` for the definitions of a variant.
 //! What it must not know: where a formula is used, and what gives a condition its formula.
 #![tactic(auto)]
 

@@ -16,6 +16,7 @@ use Rattle.lockfile.specs.declared.fault.LockFault.{LockFault}
 use Rattle.lockfile.specs.declared.fault.LockFault.TheVariants as lock
 use Rattle.graph_rules.specs.declared.rule.Rule.{Rule}
 use Rattle.graph_rules.specs.declared.rule.Rule.TheVariants as rules
+use Rattle.record_reader.specs.FaultTexts.{name_and_text, two_texts}
 use Rattle.run_answers.specs.Lines.{joined_texts}
 
 -- ---- specs
@@ -54,23 +55,19 @@ target_fault_text target.OutOfMemory = codes "OutOfMemory"
 abbrev pub in_targets : TargetFault → List ℕ
 in_targets fault = codes "Targets " ++ target_fault_text fault
 
--- a name with a pointer
-abbrev pub at_pointer : List ℕ → List ℕ → List ℕ
-at_pointer name pointer = name ++ (codes " " ++ pointer)
-
 -- the text at a pointer has the fault
 abbrev pub in_spec : List ℕ → SpecFault → List ℕ
 in_spec pointer fault = codes "Spec " ++ (pointer ++ (codes " " ++ spec_fault_text fault))
 
 unfoldable pub settings_fault_text : SettingsFault → List ℕ
 settings_fault_text settings.NotJson = codes "NotJson"
-settings_fault_text (settings.UnknownKey at) = at_pointer (codes "UnknownKey") at
-settings_fault_text (settings.WrongKind at) = at_pointer (codes "WrongKind") at
-settings_fault_text (settings.Empty at) = at_pointer (codes "Empty") at
-settings_fault_text (settings.TwiceNamed at) = at_pointer (codes "TwiceNamed") at
+settings_fault_text (settings.UnknownKey at) = name_and_text (codes "UnknownKey") at
+settings_fault_text (settings.WrongKind at) = name_and_text (codes "WrongKind") at
+settings_fault_text (settings.Empty at) = name_and_text (codes "Empty") at
+settings_fault_text (settings.TwiceNamed at) = name_and_text (codes "TwiceNamed") at
 settings_fault_text (settings.Targets fault) = in_targets fault
 settings_fault_text (settings.Spec at fault) = in_spec at fault
-settings_fault_text (settings.BadExternal at) = at_pointer (codes "BadExternal") at
+settings_fault_text (settings.BadExternal at) = name_and_text (codes "BadExternal") at
 settings_fault_text settings.OutOfMemory = codes "OutOfMemory"
 
 -- ---- recipes
@@ -103,16 +100,12 @@ recipe_fault_text recipe.OutOfMemory = codes "OutOfMemory"
 
 -- ---- lock files
 
--- a name with two hashes
-abbrev pub two_hashes : List ℕ → List ℕ → List ℕ → List ℕ
-two_hashes name first second = name ++ (codes " " ++ (first ++ (codes " " ++ second)))
-
 unfoldable pub lock_fault_text : LockFault → List ℕ
 lock_fault_text lock.NotJson = codes "NotJson"
-lock_fault_text (lock.WrongKind at) = at_pointer (codes "WrongKind") at
-lock_fault_text (lock.TwiceNamed name) = at_pointer (codes "TwiceNamed") name
-lock_fault_text (lock.HashDiffers written computed) = two_hashes (codes "HashDiffers") written computed
-lock_fault_text (lock.Dangling parent child) = two_hashes (codes "Dangling") parent child
+lock_fault_text (lock.WrongKind at) = name_and_text (codes "WrongKind") at
+lock_fault_text (lock.TwiceNamed name) = name_and_text (codes "TwiceNamed") name
+lock_fault_text (lock.HashDiffers written computed) = two_texts (codes "HashDiffers") written computed
+lock_fault_text (lock.Dangling parent child) = two_texts (codes "Dangling") parent child
 lock_fault_text lock.OutOfMemory = codes "OutOfMemory"
 
 -- ---- rules of valid graphs

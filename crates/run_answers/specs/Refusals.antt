@@ -9,9 +9,11 @@ use Rattle.run_answers.specs.LockFault.{LockFault}
 use Rattle.run_answers.specs.LockFault.TheVariants as faults
 use Rattle.run_answers.specs.Rule.{Rule}
 use Rattle.run_answers.specs.FaultTexts.{spec_fault_text, settings_fault_text, recipe_fault_text, lock_fault_text, rule_name}
-use Rattle.run_answers.specs.Lines.{line}
+use Rattle.run_answers.specs.Lines.{joined_texts, line}
 use Rattle.run_answers.specs.declared.line_fault.LineFault.{LineFault}
 use Rattle.run_answers.specs.declared.line_fault.LineFault.TheVariants as line_faults
+use Rattle.run_answers.specs.declared.root_fault.RootFault.{RootFault}
+use Rattle.run_answers.specs.declared.root_fault.RootFault.TheVariants as root_faults
 use Rattle.run_answers.specs.declared.refusal.Refusal.{Refusal}
 use Rattle.run_answers.specs.declared.refusal.Refusal.TheVariants as refusals
 use Rattle.run_answers.specs.declared.status.Status.{Status}
@@ -50,6 +52,7 @@ status_of refusals.OtherRoots = statuses.Refused
 status_of (refusals.BrokenRule rule node number) = statuses.Refused
 status_of refusals.CertificateTooLarge = statuses.TooLarge
 status_of (refusals.BadCertificate number fault) = statuses.Refused
+status_of (refusals.InRoot root fault) = statuses.Refused
 
 unfoldable pub missing_line : List ℕ → List ℕ
 missing_line path = line (codes "bad input: missing " ∷ path ∷ [])
@@ -111,6 +114,29 @@ unfoldable pub bad_certificate_line : ℕ → LineFault → List ℕ
 bad_certificate_line number fault =
     line (codes "refused: certificate line " ∷ decimal number ∷ codes " " ∷ line_fault_name fault ∷ [])
 
+-- of the lock file or the certificate of one root of many: what is said of one alone, with the root's number behind `refused: `
+unfoldable pub other_root_line : ℕ → List ℕ
+other_root_line root = line (codes "refused: root " ∷ decimal root ∷ codes ": roots" ∷ [])
+
+unfoldable pub root_lock_line : ℕ → LockFault → List ℕ
+root_lock_line root fault = line (codes "refused: root " ∷ decimal root ∷ codes ": lock " ∷ lock_fault_text fault ∷ [])
+
+unfoldable pub root_rule_line : ℕ → Rule → List ℕ → ℕ → List ℕ
+root_rule_line root rule node number =
+    line (codes "refused: root " ∷ decimal root ∷ codes ": graph " ∷ rule_name rule ∷ codes " " ∷ node ∷ codes " " ∷ decimal number ∷ [])
+
+unfoldable pub certificate_text : ℕ → LineFault → List ℕ
+certificate_text number fault = joined_texts (codes "certificate line " ∷ decimal number ∷ codes " " ∷ line_fault_name fault ∷ [])
+
+unfoldable pub root_certificate_line : ℕ → ℕ → LineFault → List ℕ
+root_certificate_line root number fault = line (codes "refused: root " ∷ decimal root ∷ codes ": " ∷ certificate_text number fault ∷ [])
+
+abbrev pub line_of_root : ℕ → RootFault → List ℕ
+line_of_root root root_faults.Root = other_root_line root
+line_of_root root (root_faults.Lock fault) = root_lock_line root fault
+line_of_root root (root_faults.Rule rule node number) = root_rule_line root rule node number
+line_of_root root (root_faults.Certificate number fault) = root_certificate_line root number fault
+
 -- the line that is said
 unfoldable pub line_of_refusal : Refusal → List ℕ
 line_of_refusal refusals.DatabaseTooLarge = line (codes "too large: database" ∷ [])
@@ -136,3 +162,22 @@ line_of_refusal refusals.OtherRoots = line (codes "refused: roots" ∷ [])
 line_of_refusal (refusals.BrokenRule rule node number) = broken_line rule node number
 line_of_refusal refusals.CertificateTooLarge = line (codes "too large: certificate" ∷ [])
 line_of_refusal (refusals.BadCertificate number fault) = bad_certificate_line number fault
+line_of_refusal (refusals.InRoot root fault) = line_of_root root fault
+
+-- ---- one root of many
+
+abbrev pub lock_in_root_by : Status → ℕ → LockFault → Refusal
+lock_in_root_by statuses.Refused root fault = refusals.InRoot root (root_faults.Lock fault)
+lock_in_root_by other root fault = refusals.BadLock fault
+
+-- a fault of one lock file as that of a root's
+abbrev pub lock_in_root : ℕ → LockFault → Refusal
+lock_in_root root fault = lock_in_root_by (lock_status fault) root fault
+
+-- a refusal of the lock file or the certificate of the root with this number: one that is Refused says which root, any other is as it is
+abbrev pub in_root : ℕ → Refusal → Refusal
+in_root root refusals.OtherRoots = refusals.InRoot root root_faults.Root
+in_root root (refusals.BadLock fault) = lock_in_root root fault
+in_root root (refusals.BrokenRule rule node number) = refusals.InRoot root (root_faults.Rule rule node number)
+in_root root (refusals.BadCertificate number fault) = refusals.InRoot root (root_faults.Certificate number fault)
+in_root root other = other

@@ -1,6 +1,7 @@
 -- Stages of reading, of which the first refusal counts.
-use Rattle.std.specs.Prelude.{◌≡◌, ◌⊎◌, Bool, true, false, Option, Some, None, Result, Ok, Err}
+use Rattle.std.specs.Prelude.{◌≡◌, ◌⊎◌, ℕ, Bool, true, false, Option, Some, None, Result, Ok, Err}
 use Rattle.run_answers.specs.declared.refusal.Refusal.{Refusal}
+use Rattle.run_answers.specs.Refusals.{in_root}
 
 -- ---- relations
 
@@ -12,6 +13,11 @@ Is given result = result ≡ given
 abbrev pub Then : {A B : Type 0} → (Result A Refusal → Type 0) → (A → Result B Refusal → Type 0) → Result B Refusal → Type 0
 Then {A} first next (Ok y) = (x : A) × first (Ok x) × next x (Ok y)
 Then {A} first next (Err refusal) = first (Err refusal) ⊎ ((x : A) × first (Ok x) × next x (Err refusal))
+
+-- a stage over the files of the root with this number: what is refused says which root
+abbrev pub InRoot : {A : Type 0} → ℕ → (Result A Refusal → Type 0) → Result A Refusal → Type 0
+InRoot root stage (Ok x) = stage (Ok x)
+InRoot root stage (Err refusal) = (inner : Refusal) × stage (Err inner) × (refusal ≡ in_root root inner)
 
 -- ---- computations: each answers, or refuses
 

@@ -1,7 +1,7 @@
 -- How a reading and a writing end.
 use Rattle.std.specs.Prelude.{ℕ, List, [], ◌∷◌, Result, Ok, Err, codes}
 use Rattle.run_answers.specs.Lines.{line}
-use Rattle.run_answers.specs.Refusals.{status_of, line_of_refusal}
+use Rattle.run_answers.specs.Refusals.{in_root, status_of, line_of_refusal}
 use Rattle.run_answers.specs.declared.refusal.Refusal.{Refusal}
 use Rattle.run_answers.specs.declared.stop.ReadStop.{ReadStop}
 use Rattle.run_answers.specs.declared.stop.ReadStop.TheVariants as reads
@@ -18,6 +18,12 @@ Gives (Ok x) Reads = Reads (Ok x)
 Gives (Err (reads.Refused refusal)) Reads = Reads (Err refusal)
 Gives (Err (reads.Fault path)) Reads = Unit {0}
 Gives (Err reads.NoMemory) Reads = Unit {0}
+
+-- a stop over the files of the root with this number: what is refused says which root
+abbrev pub stop_in_root : ℕ → ReadStop → ReadStop
+stop_in_root root (reads.Refused refusal) = reads.Refused (in_root root refusal)
+stop_in_root root (reads.Fault path) = reads.Fault path
+stop_in_root root reads.NoMemory = reads.NoMemory
 
 -- a reading that a device made fail
 abbrev pub EndsInReadFault : {T : Type 0} → Result T ReadStop → Type 0

@@ -41,7 +41,7 @@ fn root_at(problem: &Problem, place: u64) -> Option<&Spec>
 
 /// A root by its place and its canonical text.
 #[tactic(auto, unfolding(crate::specs::Texts::root_line))]
-fn write_root(
+pub fn write_root(
     alloc: Global,
     problem: &Problem,
     place: u64,

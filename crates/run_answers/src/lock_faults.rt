@@ -2,6 +2,7 @@
 
 ghost use Rattle.std.specs.Prelude.{◌≡◌, IfOk};
 ghost use Rattle.std.specs.String.{string_bytes};
+ghost use Rattle.record_reader.specs.FaultTexts.{two_texts};
 ghost use Rattle.run_answers.specs.FaultTexts as texts;
 
 use crate::settings_faults::at_pointer;
@@ -11,7 +12,7 @@ use std::alloc::{AllocError, Global};
 
 /// A name with two hashes.
 fn two_hashes(alloc: Global, name: &str, first: &str, second: &str) -> Result<String, AllocError>
-    ensures { IfOk result (λ text. string_bytes text ≡ texts.two_hashes name.now
+    ensures { IfOk result (λ text. string_bytes text ≡ two_texts name.now
         first.now second.now) }
 {
     format!(in alloc; "{name} {first} {second}")

@@ -6,6 +6,7 @@ ghost use Rattle.run_answers.specs.Refusals.{status_of};
 ghost use Rattle.run_answers.specs.Refusals as lines;
 
 use crate::line_fault::{LineFault, line_fault_name};
+use crate::root_fault::RootFault;
 use crate::status::Status;
 use crate::{
     DbFault, LockFault, RecipeFault, Rule, SettingsFault, SpecFault, database_fault_text,
@@ -63,6 +64,8 @@ pub enum Refusal {
     CertificateTooLarge,
     /// The line of the certificate with the number, from 1, has the fault.
     BadCertificate(u64, LineFault),
+    /// The lock file or the certificate of the root with the number, from 0, is refused.
+    InRoot(u64, RootFault),
 }
 
 impl Refusal {
@@ -91,8 +94,10 @@ impl Refusal {
             | Refusal::LockTooLarge
             | Refusal::CertificateTooLarge => Status::TooLarge,
             Refusal::BadLock(fault) => lock_status(fault),
-            Refusal::OtherRoots | Refusal::BrokenRule(_, _, _) | Refusal::BadCertificate(_, _) =>
-                Status::Refused,
+            Refusal::OtherRoots
+            | Refusal::BrokenRule(_, _, _)
+            | Refusal::BadCertificate(_, _)
+            | Refusal::InRoot(_, _) => Status::Refused,
         }
     }
 
@@ -127,6 +132,37 @@ impl Refusal {
             }
             Refusal::CertificateTooLarge => format!(in alloc; "too large: certificate\n"),
             Refusal::BadCertificate(number, fault) => bad_certificate_line(alloc, *number, *fault),
+            Refusal::InRoot(root, fault) => fault.line(alloc, *root),
+        }
+    }
+}
+
+/// A fault of one lock file as that of a root's.
+fn lock_in_root(root: u64, fault: LockFault) -> Refusal
+    ensures { result ≡ lines.lock_in_root root fault }
+{
+    match lock_status(&fault) {
+        Status::Refused => Refusal::InRoot(root, RootFault::Lock(fault)),
+        _ => Refusal::BadLock(fault),
+    }
+}
+
+impl Refusal {
+    /// A refusal of the lock file or the certificate of the root with this number: one that is
+    /// `Refused` says which root, any other is as it is.
+    pub fn in_root(self, root: u64) -> Refusal
+        ensures { result ≡ lines.in_root root self }
+    {
+        match self {
+            Refusal::OtherRoots => Refusal::InRoot(root, RootFault::Root),
+            Refusal::BadLock(fault) => lock_in_root(root, fault),
+            Refusal::BrokenRule(rule, node, number) => {
+                Refusal::InRoot(root, RootFault::Rule(rule, node, number))
+            }
+            Refusal::BadCertificate(number, fault) => {
+                Refusal::InRoot(root, RootFault::Certificate(number, fault))
+            }
+            other => other,
         }
     }
 }

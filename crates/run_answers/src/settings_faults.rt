@@ -2,6 +2,7 @@
 
 ghost use Rattle.std.specs.Prelude.{◌≡◌, IfOk};
 ghost use Rattle.std.specs.String.{string_bytes};
+ghost use Rattle.record_reader.specs.FaultTexts.{name_and_text};
 ghost use Rattle.run_answers.specs.FaultTexts as texts;
 
 use crate::spec_faults::{at_place, spec_fault_text};
@@ -32,7 +33,7 @@ fn in_targets(alloc: Global, fault: TargetFault) -> Result<String, AllocError>
 
 /// A name with a pointer, or another text.
 pub(crate) fn at_pointer(alloc: Global, name: &str, pointer: &str) -> Result<String, AllocError>
-    ensures { IfOk result (λ text. string_bytes text ≡ texts.at_pointer name.now pointer.now) }
+    ensures { IfOk result (λ text. string_bytes text ≡ name_and_text name.now pointer.now) }
 {
     format!(in alloc; "{name} {pointer}")
 }

@@ -33,6 +33,19 @@ pub enum WriteStop {
     NoMemory,
 }
 
+impl ReadStop {
+    /// A stop over the files of the root with this number: what is refused says which root.
+    pub fn in_root(self, root: u64) -> ReadStop
+        ensures { result ≡ lines.stop_in_root root self }
+    {
+        match self {
+            ReadStop::Refused(refusal) => ReadStop::Refused(refusal.in_root(root)),
+            ReadStop::Fault(path) => ReadStop::Fault(path),
+            ReadStop::NoMemory => ReadStop::NoMemory,
+        }
+    }
+}
+
 impl From<AllocError> for ReadStop {
     ghost from_gives = { λ _ stop. stop ≡ reads.NoMemory };
 

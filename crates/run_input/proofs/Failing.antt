@@ -4,13 +4,12 @@ use Rattle.outside_desk.specs.Files.{Files}
 use Rattle.run_answers.specs.declared.stop.ReadStop.{ReadStop}
 use Rattle.run_answers.specs.declared.stop.ReadStop.TheVariants.{Refused, Fault, NoMemory}
 use Rattle.run_words.specs.Words.{Command}
-use Rattle.run_input.specs.Sites as settings
-use Rattle.run_input.specs.Installed as database
+use Rattle.run_input.specs.Named.{FailsThere}
 use Rattle.run_input.specs.Paths.{FailsInside}
 use Rattle.run_input.specs.Inputs.{FailsAtInput}
 
 -- over the settings
-pub of_settings : (A B : Type 0) (told : Option Files) (command : Command) (stop : ReadStop) → settings.FailsThere {A = A} command.settings (Err stop)
+pub of_settings : (A B : Type 0) (told : Option Files) (command : Command) (stop : ReadStop) → FailsThere {A = A} command.settings (Err stop)
     → FailsAtInput {A = B} told command (Err stop)
 of_settings A B told command (Refused refusal) there = tt
 of_settings A B told command (Fault path) there = inl there
@@ -24,7 +23,7 @@ of_repository A B told command (Fault path) inside = inr (inl inside)
 of_repository A B told command NoMemory inside = tt
 
 -- over the database
-pub of_database : (A B : Type 0) (told : Option Files) (command : Command) (stop : ReadStop) → database.FailsThere {A = A} command.database (Err stop)
+pub of_database : (A B : Type 0) (told : Option Files) (command : Command) (stop : ReadStop) → FailsThere {A = A} command.database (Err stop)
     → FailsAtInput {A = B} told command (Err stop)
 of_database A B told command (Refused refusal) there = tt
 of_database A B told command (Fault path) there = inr (inr there)

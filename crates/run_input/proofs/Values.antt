@@ -6,7 +6,7 @@ use Rattle.std.proofs.lemmas.List.Elements.{All-weaker}
 use Rattle.std.proofs.lemmas.List.Sums.{AllPass-from_list_all, list_all-from_AllPass}
 use Rattle.table_plan.specs.Kept.{has_recorded_values, has_right_values, has_written_values}
 use Rattle.problem.specs.Limits.{are_few_records, are_few_rows, are_small, is_within_limits}
-use Rattle.problem.specs.Closure.{is_some_list}
+use Rattle.problem.specs.Closure.{is_filled}
 use Rattle.problem.specs.Problems.{problem_of}
 use Rattle.recipe_data.specs.declared.recipe.Recipe.{Recipe}
 use Rattle.site_settings.specs.declared.settings.PackageEntry.{PackageEntry}
@@ -22,11 +22,11 @@ all_weaker p q weaker xs all =
     list_all-from_AllPass q xs (All-weaker (λ x. p x ≡ true) (λ x. q x ≡ true) weaker xs (AllPass-from_list_all p xs all))
 
 -- tests of one meaning
-of_settings : {T : Type 0} (xs : List T) → is_some_list xs ≡ settings_values.is_filled xs
+of_settings : {T : Type 0} (xs : List T) → is_filled xs ≡ settings_values.is_filled xs
 of_settings [] = refl
 of_settings (x ∷ xs) = refl
 
-of_records : {T : Type 0} (xs : List T) → is_some_list xs ≡ record_values.is_filled xs
+of_records : {T : Type 0} (xs : List T) → is_filled xs ≡ record_values.is_filled xs
 of_records [] = refl
 of_records (x ∷ xs) = refl
 

@@ -18,9 +18,10 @@ use Rattle.run_answers.specs.declared.refusal.Refusal.TheVariants as refusals
 use Rattle.run_answers.specs.declared.stop.ReadStop.{ReadStop}
 use Rattle.run_answers.specs.declared.stop.ReadStop.TheVariants as reads
 use Rattle.run_words.specs.Words.{Command}
-use Rattle.run_input.specs.Installed.{DatabaseAt, IsDatabasePath}
+use Rattle.run_input.specs.Installed.{DatabaseAt}
+use Rattle.run_input.specs.Named.{IsFilePath}
 use Rattle.reuse_db.specs.declared.record.Record.{Record}
-use Rattle.run_input.specs.Sites.{SettingsAt, IsSettingsPath}
+use Rattle.run_input.specs.Sites.{SettingsAt}
 use Rattle.run_input.specs.Paths.{IsReadPath}
 use Rattle.run_input.specs.Sources.{Source, pile_of}
 use Rattle.run_input.specs.Recipes.{recipes_of}
@@ -121,7 +122,7 @@ Seeks files command = Then (StockAt files command) (Sought command.spec)
 -- what is read: the settings, the folder of the packages, the recipes of the names in it, and the database
 abbrev pub IsInputPath : Option Files → Command → List ℕ → Type 0
 IsInputPath told command path =
-    IsSettingsPath command.settings path ⊎ IsReadPath told command.repo path ⊎ IsDatabasePath command.database path
+    IsFilePath command.settings path ⊎ IsReadPath told command.repo path ⊎ IsFilePath command.database path
 
 -- a device fails only while such a path is read
 abbrev pub FailsAtInput : {A : Type 0} → Option Files → Command → Result A ReadStop → Type 0

@@ -9,8 +9,6 @@ use Rattle.reuse_db.specs.declared.fault.DbFault.TheVariants.{OutOfMemory}
 use Rattle.run_answers.specs.Stages.{Is, Then}
 use Rattle.run_answers.specs.declared.refusal.Refusal.{Refusal}
 use Rattle.run_answers.specs.declared.refusal.Refusal.TheVariants as refusals
-use Rattle.run_answers.specs.declared.stop.ReadStop.{ReadStop}
-use Rattle.run_answers.specs.declared.stop.ReadStop.TheVariants as reads
 use Rattle.run_input.specs.Bytes.{bytes_at}
 use Rattle.run_input.specs.declared.file.WholeFile.TheVariants as kinds
 use Rattle.run_words.specs.Words.{is_dash_path}
@@ -32,11 +30,3 @@ DatabaseBy false files path = Then (Is (database_bytes files path)) DatabaseIn
 -- the records that a path names
 abbrev pub DatabaseAt : Files → List ℕ → Result (List Record) Refusal → Type 0
 DatabaseAt files path = DatabaseBy (is_dash_path path) files path
-
--- a device fails only while such a file is read
-abbrev pub IsDatabasePath : List ℕ → List ℕ → Type 0
-IsDatabasePath database path = (path ≡ database) × (is_dash_path database ≡ false)
-
-abbrev pub FailsThere : {A : Type 0} → List ℕ → Result A ReadStop → Type 0
-FailsThere database (Err (reads.Fault path)) = IsDatabasePath database path
-FailsThere database other = Unit {0}

@@ -1,4 +1,5 @@
 pub mod Bytes
+pub mod Named
 pub mod Sites
 pub mod Installed
 pub mod Paths

@@ -9,8 +9,6 @@ use Rattle.settings_reader.specs.declared.fault.SettingsFault.TheVariants.{OutOf
 use Rattle.run_answers.specs.Stages.{Is, Then}
 use Rattle.run_answers.specs.declared.refusal.Refusal.{Refusal}
 use Rattle.run_answers.specs.declared.refusal.Refusal.TheVariants as refusals
-use Rattle.run_answers.specs.declared.stop.ReadStop.{ReadStop}
-use Rattle.run_answers.specs.declared.stop.ReadStop.TheVariants as reads
 use Rattle.run_input.specs.Bytes.{bytes_at}
 use Rattle.run_input.specs.declared.file.WholeFile.TheVariants as kinds
 use Rattle.run_words.specs.Words.{is_dash_path}
@@ -32,11 +30,3 @@ SettingsBy false files path = Then (Is (settings_bytes files path)) SettingsIn
 -- the settings that a path names
 abbrev pub SettingsAt : Files → List ℕ → Result Settings Refusal → Type 0
 SettingsAt files path = SettingsBy (is_dash_path path) files path
-
--- a device fails only while such a file is read
-abbrev pub IsSettingsPath : List ℕ → List ℕ → Type 0
-IsSettingsPath settings path = (path ≡ settings) × (is_dash_path settings ≡ false)
-
-abbrev pub FailsThere : {A : Type 0} → List ℕ → Result A ReadStop → Type 0
-FailsThere settings (Err (reads.Fault path)) = IsSettingsPath settings path
-FailsThere settings other = Unit {0}

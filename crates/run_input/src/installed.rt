@@ -7,7 +7,8 @@ ghost use Rattle.problem.specs.Limits.{are_few_records};
 ghost use Rattle.run_answers.specs.Reads.{OnlyReads};
 ghost use Rattle.run_answers.specs.Stops.{Gives, EndsInReadFault};
 ghost use Rattle.run_words.specs.Words.{is_dash_path};
-ghost use Rattle.run_input.specs.Installed.{DatabaseIn, DatabaseAt, FailsThere};
+ghost use Rattle.run_input.specs.Installed.{DatabaseIn, DatabaseAt};
+ghost use Rattle.run_input.specs.Named.{FailsThere};
 
 use crate::{ReadRecords, WholeFile, read_bytes};
 use file_limits::{database_count_laws, value_laws};

@@ -6,7 +6,8 @@ ghost use Rattle.problem.specs.Limits.{are_small};
 ghost use Rattle.run_answers.specs.Reads.{OnlyReads};
 ghost use Rattle.run_answers.specs.Stops.{Gives, EndsInReadFault};
 ghost use Rattle.run_words.specs.Words.{is_dash_path};
-ghost use Rattle.run_input.specs.Sites.{SettingsIn, SettingsAt, FailsThere};
+ghost use Rattle.run_input.specs.Named.{FailsThere};
+ghost use Rattle.run_input.specs.Sites.{SettingsIn, SettingsAt};
 
 use crate::{ReadSettings, WholeFile, read_bytes};
 use file_limits::settings_count_laws;

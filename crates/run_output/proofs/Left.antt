@@ -7,7 +7,8 @@ use Rattle.run_task.specs.Input.{Input}
 use Rattle.run_task.specs.WriteStop.{WriteStop}
 use Rattle.run_task.specs.WriteStop.TheVariants.{Put, Output, NoMemory}
 use Rattle.run_task.specs.declared.task.Task.TheVariants as tasks
-use Rattle.run_output.specs.Answers.{HoldsWhole, KeepsWhole, Leaves, Writes}
+use Rattle.run_output.specs.Answers.{KeepsWhole, Leaves, Writes}
+use Rattle.run_output.specs.Put.{HoldsWhole}
 use Rattle.run_output.specs.Evidence.{IsFor, evidence}
 use Rattle.run_output.specs.declared.answer.Outcome.{Outcome}
 use Rattle.run_output.specs.declared.answer.Outcome.TheVariants.{Solved, Unsolved, Undecided, Stale}

@@ -1,4 +1,8 @@
 pub mod Written
+pub mod EachLaws
+pub mod EachAnswers
+pub mod EachLeft
+pub mod Apart
 pub mod Changes
 pub mod Comparisons
 pub mod Puts
@@ -8,3 +12,4 @@ pub mod Meaning
 pub mod Spent
 pub mod Tellings
 pub use Rattle.run_task.proofs.StageLaws
+pub use Rattle.run_task.proofs.Posed

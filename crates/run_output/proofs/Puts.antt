@@ -13,7 +13,8 @@ use Rattle.run_task.specs.Words.{is_dash_path}
 use Rattle.run_task.specs.Problems.{Problem}
 use Rattle.run_task.specs.WriteStop.{WriteStop}
 use Rattle.run_task.specs.WriteStop.TheVariants.{Put, Output, NoMemory}
-use Rattle.run_output.specs.Answers.{HoldsWhole, MayCert, Puts, PutsAnswer, PutsCert, with_cert, with_cert_by}
+use Rattle.run_output.specs.Answers.{Puts, PutsAnswer, PutsCert}
+use Rattle.run_output.specs.Put.{HoldsWhole, MayCert, with_cert, with_cert_by}
 
 -- a stop that was handed on
 pub carried : {A : Type 0} (stop : WriteStop) (result : Result A WriteStop) → IsErrAnd result (λ given. given ≡ stop) → result ≡ Err stop

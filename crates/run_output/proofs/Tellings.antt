@@ -22,6 +22,7 @@ module _ (lock cert : List ℕ) (files : Option Files) (said more : Option (List
   pub told_writes : (task : Task) (outcome : Outcome) → Tells evidence task outcome text → more ≡ and_said said text
       → Writes evidence lock cert task files files said more (Ok outcome)
   told_writes (tasks.Solve input) outcome tells out = absurd tells
+  told_writes (tasks.Each input) outcome tells out = absurd tells
   told_writes other Solved tells out = record { text = text; tells = tells; files = refl; out = out }
   told_writes other Unsolved tells out = record { text = text; tells = tells; files = refl; out = out }
   told_writes other Undecided tells out = record { text = text; tells = tells; files = refl; out = out }
@@ -35,6 +36,7 @@ module _ (lock cert : List ℕ) (files : Option Files) (said more : Option (List
       → Writes evidence lock cert task files files said more (Err stop)
   told_stops task outcome (Put at) tells says = absurd says
   told_stops (tasks.Solve input) outcome Output tells says = absurd tells
+  told_stops (tasks.Each input) outcome Output tells says = absurd tells
   told_stops other outcome Output tells says = half_told other outcome tells says
   told_stops task outcome NoMemory tells says = says
 

@@ -1,15 +1,13 @@
 -- What a run leaves of its answer: the certificate, the lock file and what was said.
-use Rattle.std.specs.Prelude.{◌≡◌, ◌⊎◌, ℕ, Bool, true, false, List, Option, Result, Ok, Err}
+use Rattle.std.specs.Prelude.{◌≡◌, ℕ, List, Option, Result, Ok, Err}
 use Rattle.outside_desk.specs.Files.{Files, with_file, and_said, MayHold, SaysPart}
 use Rattle.graph_core.specs.Graphs.{Content}
 use Rattle.run_task.specs.Problems.{Problem}
 use Rattle.proof_log.specs.declared.line.Line.{Line}
-use Rattle.proof_log.specs.Readings.{log_text}
-use Rattle.run_task.specs.Answers.{log_of}
 use Rattle.run_task.specs.Answer.{Answer}
 use Rattle.run_task.specs.Answer.TheVariants as answers
-use Rattle.run_output.specs.Locks.{lock_of}
-use Rattle.run_task.specs.Words.{is_dash_path}
+use Rattle.run_output.specs.Put.{files_with, with_both, with_cert, HoldsWhole, IsHalfPut, MayCert}
+use Rattle.run_output.specs.Each.{AreSolvedApart, AreUnsaid, HaveHalfPut, HaveWhole}
 use Rattle.run_task.specs.WriteStop.{WriteStop}
 use Rattle.run_task.specs.WriteStop.TheVariants as writes
 use Rattle.run_task.specs.declared.task.Task.{Task}
@@ -19,47 +17,6 @@ use Rattle.run_output.specs.Texts.{graph_text, text_of_answer, outcome_of, unsat
 use Rattle.run_output.specs.Told.{IsTold, IsHalfTold}
 use Rattle.run_output.specs.declared.answer.Outcome.{Outcome}
 use Rattle.run_output.specs.declared.answer.Outcome.TheVariants as outcomes
-
--- ---- files
-
-abbrev pub with_cert_by : Bool → List ℕ → List Line → Option Files → Option Files
-with_cert_by true cert log files = files
-with_cert_by false cert log files = with_file files cert (log_text log)
-
--- the certificate is put, unless its path is `-`
-abbrev pub with_cert : List ℕ → List Line → Option Files → Option Files
-with_cert cert log files = with_cert_by (is_dash_path cert) cert log files
-
--- the certificate, and then the lock file of the graph
-abbrev pub with_both : List ℕ → List ℕ → Problem → Content → List Line → Option Files → Option Files
-with_both lock cert problem graph log files = with_file (with_cert cert log files) lock (lock_of problem graph)
-
--- the files after the answer was written: only a graph has a lock file
-abbrev pub files_with : List ℕ → List ℕ → Problem → Answer → Option Files → Option Files
-files_with lock cert problem (answers.Best graph log) files = with_both lock cert problem graph log files
-files_with lock cert problem (answers.Nothing log) files = with_cert cert log files
-files_with lock cert problem (answers.Undecided log) files = with_cert cert log files
-
--- the certificate is as it was, or holds its text
-abbrev pub MayCert : List ℕ → List Line → Option Files → Option Files → Type 0
-MayCert cert log before after = (is_dash_path cert ≡ false) × MayHold before after cert (log_text log)
-
--- the lock file is as it was, or holds its text
-abbrev pub MayLock : List ℕ → Problem → Answer → Option Files → Option Files → Type 0
-MayLock lock problem (answers.Best graph log) before after = MayHold before after lock (lock_of problem graph)
-MayLock lock problem (answers.Nothing log) before after = ⊥
-MayLock lock problem (answers.Undecided log) before after = ⊥
-
--- a put at the path failed: that of the certificate, or, with the certificate whole, that of the lock file
-abbrev pub IsHalfPut : List ℕ → List ℕ → Problem → Answer → List ℕ → Option Files → Option Files → Type 0
-IsHalfPut lock cert problem answer path before after =
-    ((path ≡ cert) × MayCert cert (log_of answer) before after)
-    ⊎ ((path ≡ lock) × MayLock lock problem answer (with_cert cert (log_of answer) before) after)
-
--- at any end: the certificate is as it was, or whole; or it is whole, and the lock file is as it was, or whole
-abbrev pub HoldsWhole : List ℕ → List ℕ → Problem → Answer → Option Files → Option Files → Type 0
-HoldsWhole lock cert problem answer before after =
-    MayCert cert (log_of answer) before after ⊎ MayLock lock problem answer (with_cert cert (log_of answer) before) after
 
 -- ---- what calls leave
 
@@ -151,46 +108,56 @@ pub record HasWhole (sense : Sense) (lock cert : List ℕ) (problem : Problem) (
   pub found : sense.answers problem answer
   pub held : HoldsWhole lock cert problem answer before after
 
--- ---- what writing leaves, by the task: all but `concretize` put no file
+-- ---- what writing leaves, by the task: all but `concretize` and `each` put no file
 
 -- what was asked for is done
 abbrev pub IsFinished : Sense → List ℕ → List ℕ → Task → Option Files → Option Files → Option (List ℕ) → Option (List ℕ) → Type 0
 IsFinished sense lock cert (tasks.Solve input) before after out_before out_after =
     IsSolved sense lock cert input.problem before after out_before out_after
+IsFinished sense dir cert (tasks.Each input) before after out_before out_after =
+    AreSolvedApart sense dir input.problem outcomes.Solved before after out_before out_after
 IsFinished sense lock cert task before after out_before out_after = IsTold sense task outcomes.Solved before after out_before out_after
 
 -- there is no graph
-abbrev pub HasNone : Sense → List ℕ → Task → Option Files → Option Files → Option (List ℕ) → Option (List ℕ) → Type 0
-HasNone sense cert (tasks.Solve input) before after out_before out_after = IsUnsolved sense cert input.problem before after out_before out_after
-HasNone sense cert task before after out_before out_after = IsTold sense task outcomes.Unsolved before after out_before out_after
+abbrev pub HasNone : Sense → List ℕ → List ℕ → Task → Option Files → Option Files → Option (List ℕ) → Option (List ℕ) → Type 0
+HasNone sense dir cert (tasks.Each input) before after out_before out_after =
+    AreSolvedApart sense dir input.problem outcomes.Unsolved before after out_before out_after
+HasNone sense lock cert (tasks.Solve input) before after out_before out_after = IsUnsolved sense cert input.problem before after out_before out_after
+HasNone sense lock cert task before after out_before out_after = IsTold sense task outcomes.Unsolved before after out_before out_after
 
 -- the budget was spent
-abbrev pub HasSpent : Sense → List ℕ → Task → Option Files → Option Files → Option (List ℕ) → Option (List ℕ) → Type 0
-HasSpent sense cert (tasks.Solve input) before after out_before out_after = IsBudgetSpent sense cert input.problem before after out_before out_after
-HasSpent sense cert task before after out_before out_after = IsTold sense task outcomes.Undecided before after out_before out_after
+abbrev pub HasSpent : Sense → List ℕ → List ℕ → Task → Option Files → Option Files → Option (List ℕ) → Option (List ℕ) → Type 0
+HasSpent sense dir cert (tasks.Each input) before after out_before out_after =
+    AreSolvedApart sense dir input.problem outcomes.Undecided before after out_before out_after
+HasSpent sense lock cert (tasks.Solve input) before after out_before out_after = IsBudgetSpent sense cert input.problem before after out_before out_after
+HasSpent sense lock cert task before after out_before out_after = IsTold sense task outcomes.Undecided before after out_before out_after
 
 -- the lock file is right, and a better graph was found: `fresh` alone says so
 abbrev pub HasBetter : Sense → Task → Option Files → Option Files → Option (List ℕ) → Option (List ℕ) → Type 0
 HasBetter sense (tasks.Solve input) before after out_before out_after = ⊥
+HasBetter sense (tasks.Each input) before after out_before out_after = ⊥
 HasBetter sense task before after out_before out_after = IsTold sense task outcomes.Stale before after out_before out_after
 
 -- a put at the path failed
 abbrev pub IsHalfDone : Sense → List ℕ → List ℕ → Task → List ℕ → Option Files → Option Files → Type 0
 IsHalfDone sense lock cert (tasks.Solve input) path before after = HasHalfPut sense lock cert input.problem path before after
+IsHalfDone sense dir cert (tasks.Each input) path before after = HaveHalfPut sense dir input.problem path before after
 IsHalfDone sense lock cert task path before after = ⊥
 
 -- the sink failed
 abbrev pub IsUntold : Sense → List ℕ → List ℕ → Task → Option Files → Option Files → Option (List ℕ) → Option (List ℕ) → Type 0
 IsUntold sense lock cert (tasks.Solve input) before after out_before out_after =
     IsUnsaid sense lock cert input.problem before after out_before out_after
+IsUntold sense dir cert (tasks.Each input) before after out_before out_after =
+    AreUnsaid sense dir input.problem before after out_before out_after
 IsUntold sense lock cert task before after out_before out_after = IsHalfTold sense task before after out_before out_after
 
 -- what writing leaves
 abbrev pub Writes : Sense → List ℕ → List ℕ → Task → Option Files → Option Files → Option (List ℕ) → Option (List ℕ)
     → Result Outcome WriteStop → Type 0
 Writes sense lock cert task before after out_before out_after (Ok outcomes.Solved) = IsFinished sense lock cert task before after out_before out_after
-Writes sense lock cert task before after out_before out_after (Ok outcomes.Unsolved) = HasNone sense cert task before after out_before out_after
-Writes sense lock cert task before after out_before out_after (Ok outcomes.Undecided) = HasSpent sense cert task before after out_before out_after
+Writes sense lock cert task before after out_before out_after (Ok outcomes.Unsolved) = HasNone sense lock cert task before after out_before out_after
+Writes sense lock cert task before after out_before out_after (Ok outcomes.Undecided) = HasSpent sense lock cert task before after out_before out_after
 Writes sense lock cert task before after out_before out_after (Ok outcomes.Stale) = HasBetter sense task before after out_before out_after
 Writes sense lock cert task before after out_before out_after (Err (writes.Put at)) =
     IsHalfDone sense lock cert task at before after × (out_after ≡ out_before)
@@ -200,4 +167,5 @@ Writes sense lock cert task before after out_before out_after (Err writes.NoMemo
 -- files were put
 abbrev pub KeepsWhole : Sense → List ℕ → List ℕ → Task → Option Files → Option Files → Type 0
 KeepsWhole sense lock cert (tasks.Solve input) before after = HasWhole sense lock cert input.problem before after
+KeepsWhole sense dir cert (tasks.Each input) before after = HaveWhole sense dir input.problem before after
 KeepsWhole sense lock cert task before after = ⊥

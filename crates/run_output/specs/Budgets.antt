@@ -6,6 +6,7 @@ use Rattle.run_task.specs.declared.task.Task.TheVariants as tasks
 -- what the settings give; a task that is read and not searched has none
 abbrev pub budget_of : Task → ℕ
 budget_of (tasks.Solve input) = input.problem.settings.conflict_budget
+budget_of (tasks.Each input) = input.problem.settings.conflict_budget
 budget_of (tasks.Report numbers) = 0
 budget_of tasks.Accepted = 0
 budget_of (tasks.Explain input) = input.problem.settings.conflict_budget

@@ -10,8 +10,9 @@ use Rattle.run_task.specs.WriteStop.{WriteStop}
 use Rattle.run_task.specs.WriteStop.TheVariants as writes
 use Rattle.run_task.specs.declared.task.Task.{Task}
 use Rattle.run_task.specs.declared.task.Task.TheVariants as tasks
-use Rattle.run_output.specs.Answers.{files_with}
-use Rattle.run_output.specs.Evidence.{IsFor, IsGroundedLeast}
+use Rattle.run_output.specs.Put.{files_with}
+use Rattle.run_output.specs.Each.{AreAnswersOf, files_of_each, log_of_all, outcome_of_all}
+use Rattle.run_output.specs.Evidence.{IsFor, IsGroundedLeast, evidence}
 use Rattle.run_output.specs.LeastTexts.{least_explanation_text, least_log, least_outcome}
 use Rattle.run_output.specs.Texts.{outcome_of}
 use Rattle.run_output.specs.declared.answer.Outcome.{Outcome}
@@ -28,9 +29,24 @@ pub record IsLeastLog (problem : Problem) (kept : List Line) : Type 0 where
   pub explains : IsGroundedLeast problem explanation
   pub lines : kept ≡ least_log explanation
 
+-- the log of the first root without a graph, of answers of all roots; where each has one, there is no line
+pub record IsLogOfAll (problem : Problem) (kept : List Line) : Type 0 where
+  pub found : List Answer
+  pub each : AreAnswersOf evidence problem found
+  pub lines : kept ≡ log_of_all found
+
+-- the same where the files of all roots were put, and they came to this
+pub record IsPutLogOfAll (dir : List ℕ) (problem : Problem) (outcome : Outcome) (before after : Option Files) (kept : List Line) : Type 0 where
+  pub found : List Answer
+  pub each : AreAnswersOf evidence problem found
+  pub is_outcome : outcome ≡ outcome_of_all found
+  pub files : after ≡ files_of_each dir problem found before
+  pub lines : kept ≡ log_of_all found
+
 -- the log of what was searched for the task; of a task that has no search, and of one that explains or compares, no line
 abbrev pub HoldsLog : Task → List Line → Type 0
 HoldsLog (tasks.Solve input) kept = IsLogOf input.problem kept
+HoldsLog (tasks.Each input) kept = IsLogOfAll input.problem kept
 HoldsLog (tasks.Try input) kept = IsLogOf input.problem kept
 HoldsLog (tasks.Reasons input) kept = IsLeastLog input.problem kept
 HoldsLog task kept = kept ≡ []
@@ -67,6 +83,7 @@ pub record IsPutLog (lock cert : List ℕ) (problem : Problem) (outcome : Outcom
 -- what is kept of a task that came to this, where the files were and are so, and what was said so
 abbrev pub KeepsLog : List ℕ → List ℕ → Task → Outcome → Option Files → Option Files → Option (List ℕ) → Option (List ℕ) → List Line → Type 0
 KeepsLog lock cert (tasks.Solve input) outcome before after said more kept = IsPutLog lock cert input.problem outcome before after kept
+KeepsLog dir cert (tasks.Each input) outcome before after said more kept = IsPutLogOfAll dir input.problem outcome before after kept
 KeepsLog lock cert (tasks.Try input) outcome before after said more kept = IsLogTo input.problem outcome kept
 KeepsLog lock cert (tasks.Reasons input) outcome before after said more kept = IsToldLog input.problem outcome said more kept
 KeepsLog lock cert task outcome before after said more kept = kept ≡ []

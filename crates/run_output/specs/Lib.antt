@@ -8,6 +8,9 @@ pub mod Texts
 pub mod LeastTexts
 pub mod Told
 pub mod Changes
+pub mod Put
+pub mod Each
+pub mod EachPuts
 pub mod Answers
 pub mod Budgets
 pub mod Kept
@@ -37,3 +40,17 @@ pub use Rattle.run_task.specs.Explanation
 pub use Rattle.run_task.specs.Problems
 pub use Rattle.proof_log.specs.declared.line.Line
 pub use Rattle.run_task.specs.LeastExplanation
+pub use Rattle.run_task.specs.Places
+-- what laws that read the headline name
+pub use Rattle.graph_core.specs.Graphs
+pub use Rattle.problem.specs.Nodes
+pub use Rattle.problem.specs.Demands
+pub use Rattle.problem.specs.declared.demand.Demand
+pub use Rattle.graph_rules.specs.Valid
+pub use Rattle.graph_rules.specs.Optimal
+pub use Rattle.run_task.specs.Costs
+pub use Rattle.run_task.specs.Inputs
+pub use Rattle.run_task.specs.Verdicts
+pub use Rattle.run_task.specs.Explanations
+pub use Rattle.run_task.specs.LeastLists
+pub use Rattle.proof_log.specs.Readings

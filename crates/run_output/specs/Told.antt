@@ -99,6 +99,7 @@ pub record IsPlanned (graph : Content) (outcome : Outcome) (text : List ℕ) : T
 -- what may be said of a task, and what it then came to
 abbrev pub Tells : Sense → Task → Outcome → List ℕ → Type 0
 Tells sense (tasks.Solve input) outcome text = ⊥
+Tells sense (tasks.Each input) outcome text = ⊥
 Tells sense (tasks.Report numbers) outcome text = (outcome ≡ outcomes.Solved) × (text ≡ verdict_text numbers)
 Tells sense tasks.Accepted outcome text = (outcome ≡ outcomes.Solved) × (text ≡ accepted_line)
 Tells sense (tasks.Explain input) outcome text = IsExplained sense input.problem outcome text

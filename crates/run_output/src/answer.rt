@@ -12,6 +12,7 @@ ghost use Rattle.run_output.specs.Kept.{KeepsAny};
 ghost use Rattle.run_output.specs.Told.{Tells};
 
 use crate::comparison::of_comparison;
+use crate::each_found::write_each;
 use crate::find::{find, log_of};
 use crate::found::write_found;
 use crate::least_said::of_least_reasons;
@@ -23,6 +24,7 @@ use outside_desk::{Desk, Sink};
 use proof_log::Log;
 use run_task::{Input, Progress, Task, WriteStop};
 use std::alloc::Global;
+use std::thread::Threads;
 
 /// What a task came to.
 #[derive(Clone, Copy, Debug, PartialEq, Eq)]
@@ -86,9 +88,11 @@ fn tell<O: Sink>(alloc: Global, _task: &Task, said: Said, out: &mut O) -> Result
 }
 
 /// Writes the answer of a task: of a problem to solve the certificate at `cert`, unless that is `-`, then the lock file at `lock`
-/// where there is a graph, and then what is said; of any other task what is said alone. The log of a search that answered is kept,
+/// where there is a graph, and then what is said; of the problem of each root by itself the files of all roots in the folder that
+/// `lock` then is, and what is said; of any other task what is said alone. The log of a search that answered is kept,
 /// and `progress` is told how far it is.
-pub fn write_answer<D: Desk, O: Sink, P: Progress>(
+pub fn write_answer<R: Threads + Sync, D: Desk, O: Sink, P: Progress>(
+    rt: &R,
     alloc: Global,
     task: &Task,
     lock: &str,
@@ -114,6 +118,7 @@ pub fn write_answer<D: Desk, O: Sink, P: Progress>(
 {
     match task {
         Task::Solve(input) => write_best(alloc, input, lock, cert, desk, out, kept, progress),
+        Task::Each(input) => write_each(rt, alloc, input, lock, desk, out, kept, progress),
         Task::Report(numbers) => {
             let said = of_verdict(alloc, numbers)?;
             tell(alloc, task, said, out)

@@ -6,7 +6,8 @@ ghost use Rattle.outside_desk.specs.Causes.{Counts};
 ghost use Rattle.spec_grammar.specs.Canonical.{spec_text};
 ghost use Rattle.run_task.specs.Answer.TheVariants as answers;
 ghost use Rattle.run_task.specs.Stops.{EndsInPutFault, EndsInOutputFault};
-ghost use Rattle.run_output.specs.Answers.{HoldsWhole, Leaves, PutsAnswer};
+ghost use Rattle.run_output.specs.Answers.{Leaves, PutsAnswer};
+ghost use Rattle.run_output.specs.Put.{HoldsWhole};
 ghost use Rattle.run_output.specs.Evidence.{IsFor};
 ghost use Rattle.run_output.specs.Texts.{outcome_of};
 
@@ -50,7 +51,7 @@ fn put_best<D: Desk>(
 }
 
 /// Puts the files of an answer.
-fn put_answer<D: Desk>(
+pub(crate) fn put_answer<D: Desk>(
     alloc: Global,
     problem: &Problem,
     answer: &Answer,

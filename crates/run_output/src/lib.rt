@@ -5,12 +5,16 @@
 //! What it promises: the files and the lines are those of an answer of the problem; what stands after a fault. A valid graph can be
 //! written, since the rules demand it.
 //! What it stands on: `run_task` for what is asked and for the answer, `graph_rules` for validity, `lock_writer` for the lock file,
-//! `spec_find` for installed packages that are looked for, `install_plan` for the order of a build.
+//! `root_graphs` for many roots by themselves, `spec_find` for installed packages that are looked for, `install_plan` for the order of a
+//! build.
 //! What it must not know: words, and how the problem was read.
 #![tactic(auto)]
 
 mod answer;
 mod comparison;
+mod each_found;
+mod each_put;
+mod each_text;
 mod find;
 mod found;
 mod least_said;

@@ -6,7 +6,8 @@ ghost use Rattle.outside_desk.specs.Files.{MayHold};
 ghost use Rattle.proof_log.specs.Lines.{AllLines};
 ghost use Rattle.proof_log.specs.Texts.{may_write};
 ghost use Rattle.run_task.specs.Stops.{EndsInPutFault, EndsInOutputFault};
-ghost use Rattle.run_output.specs.Answers.{MayCert, Puts, PutsCert};
+ghost use Rattle.run_output.specs.Answers.{Puts, PutsCert};
+ghost use Rattle.run_output.specs.Put.{MayCert};
 
 use outside_desk::{Desk, DeskFault};
 use plain_data::Word;

@@ -10,7 +10,7 @@ ghost use Rattle.run_output.specs.Senses.{meaning};
 /// A task is left undecided only under a budget below 2^64 - 1: never under that of the standard settings.
 #[tactic(auto, using(crate::proofs::Spent::spent_below))]
 pub fn budget_laws()
-    ensures { (cert : List ℕ) (task : Task) (before after : Option Files)
+    ensures { (lock cert : List ℕ) (task : Task) (before after : Option Files)
         (said more : Option (List ℕ))
-        → HasSpent meaning cert task before after said more → budget_of task < 2 ^ 64 - 1 }
+        → HasSpent meaning lock cert task before after said more → budget_of task < 2 ^ 64 - 1 }
 {}

@@ -1,8 +1,7 @@
 -- A log that may be written is accepted as a text where it is accepted as lines.
-use Rattle.std.proofs.Common.{◌≡◌, refl, sym, ap, ◌∙◌, ℕ, ◌≤◌, Bool, true, List, [], ◌∷◌, length, Option, Some, None, Result, Ok}
+use Rattle.std.proofs.Common.{◌≡◌, refl, ap, ◌∙◌, ℕ, ◌≤◌, Bool, true, List, [], ◌∷◌, length, Option, Some, None, Ok}
 use Rattle.std.specs.Prelude.{◌↔◌}
 use Rattle.std.specs.Option.{option_map}
-use Rattle.std.specs.FinMap.{get}
 use Rattle.outside_desk.specs.Files.{Files}
 use Rattle.clause_store.specs.declared.Lit.{Lit}
 use Rattle.clause_store.specs.Clauses.{Clauses, clauses_of}
@@ -19,12 +18,10 @@ use Rattle.log_checker.specs.Steps.{CheckerState, Going, starting_state, begun, 
 use Rattle.certified.specs.Texts.{answer_of}
 use Rattle.certified.specs.declared.text.TextAnswer.TheVariants.{Checked}
 use Rattle.problem.specs.Problems.{Problem}
-use Rattle.graph_core.specs.Graphs.{Content}
 use Rattle.graph_rules.specs.Costs.{vector}
 use Rattle.run_answers.specs.Stages.{◌>>=◌, or_refuse}
 use Rattle.run_answers.specs.declared.refusal.Refusal.TheVariants as refusals
 use Rattle.run_answers.specs.declared.line_fault.LineFault.TheVariants as faults
-use Rattle.best_graph.specs.Answers.{IsAnswer}
 use Rattle.best_graph.specs.OfProblemEncoding.Built.{encoding_of, rule_clauses}
 use Rattle.best_graph.specs.Verdicts.{BestIsCertified, NothingIsRefuted}
 use Rattle.run_task.specs.Certificates.{begun_for, said_at, said_of_text, certified_at, verdict_on_text, most}

@@ -13,3 +13,7 @@ pub mod RootTexts
 pub mod Stops
 mod Weaker
 pub use Rattle.run_input.proofs.StageLaws
+pub mod OneRoot
+pub mod Checks
+pub mod Posed
+mod EachAccepted

@@ -1,8 +1,9 @@
 -- The words name one task at most.
-use Rattle.std.proofs.Common.{◌≡◌, sym, subst, ◌∙◌, ℕ, Bool, true, false, List, Option, Some, None, Result, Ok}
+use Rattle.std.proofs.Common.{◌≡◌, sym, subst, ◌∙◌, ℕ, ◌+◌, Bool, true, false, List, [], ◌∷◌, Option, Some, None, Result, Ok, Err}
 use Rattle.outside_desk.specs.Files.{Files}
-use Rattle.run_task.specs.Problems.{Problem}
-use Rattle.run_input.specs.Stages.{Is}
+use Rattle.run_task.specs.Problems.{Problem, apart}
+use Rattle.run_task.specs.Places.{cert_at, lock_at}
+use Rattle.run_input.specs.Stages.{Is, InRoot}
 use Rattle.run_input.proofs.StageLaws.{IsOne, one_is, one_then}
 use Rattle.run_input.specs.Refusal.{Refusal}
 use Rattle.run_input.specs.Words.{Command}
@@ -12,7 +13,7 @@ use Rattle.run_input.specs.Inputs.{ReadsInput, Seeks}
 use Rattle.run_input.specs.declared.input.Input.{Input}
 use Rattle.run_task.specs.Verdicts.{GraphAt, Judges}
 use Rattle.run_task.specs.Certificates.{certified_at, log_verdict}
-use Rattle.run_task.specs.Tasks.{AcceptanceOf, OverUnless, TaskBy, Named, Poses, files_for, is_search}
+use Rattle.run_task.specs.Tasks.{AcceptanceOf, CheckOf, ChecksOf, OverUnless, TaskBy, Named, Poses, files_for, is_search}
 use Rattle.run_task.specs.declared.task.Task.{Task}
 use Rattle.run_task.specs.declared.task.Task.TheVariants as tasks
 
@@ -27,6 +28,29 @@ one_acceptance files cert problem numbers =
 -- of a lock file there is one graph at most
 abbrev OneGraph : Type 0
 OneGraph = (files : Files) (path : List ℕ) (problem : Problem) → IsOne (GraphAt files path problem)
+
+-- a refusal of the files of a root, which says which root
+one_in_root : {A : Type 0} (root : ℕ) (stage : Result A Refusal → Type 0) → IsOne stage → IsOne (InRoot root stage)
+one_in_root root stage one (Ok x) (Ok y) here there = one (Ok x) (Ok y) here there
+one_in_root root stage one (Ok x) (Err r) here (inner, there, same) = absurd (let e = one (Ok x) (Err inner) here there in cc)
+one_in_root root stage one (Err r) (Ok y) (inner, here, same) there = absurd (let e = one (Err inner) (Ok y) here there in cc)
+one_in_root root stage one (Err r) (Err q) (inner, here, same) (other, there, too) =
+    let e = one (Err inner) (Err other) here there in cc
+
+one_check : OneVerdict → (files : Files) (lock cert : List ℕ) (problem : Problem) → IsOne (CheckOf log_verdict files lock cert problem)
+one_check one_verdict files lock cert problem =
+    one_then (Judges files lock problem) (λ numbers. AcceptanceOf log_verdict files cert problem (Some numbers))
+    (one_verdict files lock problem) (λ numbers. one_acceptance files cert problem (Some numbers))
+
+-- all roots, each by itself
+one_checks : OneVerdict → (files : Files) (dir : List ℕ) (root : ℕ) (problems : List Problem) → IsOne (ChecksOf log_verdict files dir root problems)
+one_checks one_verdict files dir root [] = one_is (Ok tasks.Accepted)
+one_checks one_verdict files dir root (problem ∷ more) =
+    one_then (InRoot root (CheckOf log_verdict files (lock_at dir root) (cert_at dir root) problem))
+    (λ done. ChecksOf log_verdict files dir (root + 1) more)
+    (one_in_root root (CheckOf log_verdict files (lock_at dir root) (cert_at dir root) problem)
+    (one_check one_verdict files (lock_at dir root) (cert_at dir root) problem))
+    (λ done. one_checks one_verdict files dir (root + 1) more)
 
 one_by : OneVerdict → OneGraph → (work : Work) (files : Files) (command : Command) (input : Input) → IsOne (TaskBy log_verdict work files command input)
 one_by one_verdict one_graph works.Concretize files command input = one_is (Ok (tasks.Solve input))
@@ -44,6 +68,8 @@ one_by one_verdict one_graph works.Plan files command input =
     (one_graph files command.lock input.problem) (λ graph. one_is (Ok (tasks.Plan graph)))
 one_by one_verdict one_graph works.Find files command input = λ a b one other. absurd one
 one_by one_verdict one_graph works.Refute files command input = one_acceptance files command.cert input.problem None
+one_by one_verdict one_graph works.Each files command input = one_is (Ok (tasks.Each input))
+one_by one_verdict one_graph works.CheckEach files command input = one_checks one_verdict files command.lock 0 (apart input.problem)
 one_by one_verdict one_graph works.Explain files command input = one_is (Ok (tasks.Explain input))
 one_by one_verdict one_graph works.Reasons files command input = one_is (Ok (tasks.Reasons input))
 one_by one_verdict one_graph (works.Trial packages seed) files command input = one_is (Ok (tasks.Try input))

@@ -1,13 +1,12 @@
 -- What the reading of a file has decided.
-use Rattle.std.proofs.Common.{◌≡◌, refl, sym, ap, subst, ◌∙◌, ℕ, ◌+◌, ◌-◌, ◌<◌, ◌≤◌, min, Bool, true, false, List, ◌++◌, take, drop, length, Option, Some, None, Result, Ok, Err, arith}
-use Rattle.std.specs.Prelude.{nat_le, ◌||◌, not, IsSomeAnd}
+use Rattle.std.proofs.Common.{◌≡◌, refl, sym, ap, subst, ◌∙◌, ℕ, ◌+◌, ◌-◌, ◌<◌, ◌≤◌, min, Bool, true, false, List, ◌++◌, take, drop, length, Err, arith}
+use Rattle.std.specs.Prelude.{nat_le, ◌||◌}
 use Rattle.std.proofs.lemmas.List.{take_all, take-take}
 use Rattle.std.proofs.Math.Seq.{take-add}
 use Rattle.log_checker.specs.Steps.{CheckerState}
 use Rattle.certified.specs.Texts.{Stage, IsAfter, IsFed, is_settled, answer_at, answer_of, is_settled_by}
 use Rattle.certified.proofs.Stages.{settled-stays}
 use Rattle.outside_desk.specs.Files.{IsPiece}
-use Rattle.run_answers.specs.declared.refusal.Refusal.{Refusal}
 use Rattle.run_answers.specs.declared.refusal.Refusal.TheVariants as refusals
 use Rattle.run_task.specs.Certificates.{said_of_text, verdict_on_text, most}
 use Rattle.run_task.specs.Pieces.{IsReady}

@@ -1,5 +1,5 @@
 -- What may be said of any certificate.
-use Rattle.std.proofs.Common.{◌≡◌, refl, ℕ, Bool, true, false, List, Option, Some, None, Result, Ok, Err, cond}
+use Rattle.std.proofs.Common.{refl, ℕ, Bool, true, false, List, Option, Some, None, Err, cond}
 use Rattle.std.specs.Prelude.{◌||◌, nat_le, length, take}
 use Rattle.std.specs.FinMap.{get}
 use Rattle.outside_desk.specs.Files.{Files}

@@ -3,7 +3,7 @@ use Rattle.std.proofs.Common.{◌≡◌, ◌∙◌, refl, sym, subst, ℕ, Bool,
 use Rattle.std.proofs.lemmas.Bool.{false≢true}
 use Rattle.std.specs.Prelude.{IfSome, IfOk, OnOk}
 use Rattle.outside_desk.specs.Files.{Files}
-use Rattle.run_input.specs.Stages.{Is, Then}
+use Rattle.run_input.specs.Stages.{Is}
 use Rattle.run_input.specs.Stops.{Gives}
 use Rattle.run_input.specs.ReadStop.{ReadStop}
 use Rattle.run_input.proofs.StageLaws.{then_stop}
@@ -14,7 +14,7 @@ use Rattle.run_input.specs.Inputs.{Seeks}
 use Rattle.run_input.specs.declared.input.Input.{Input}
 use Rattle.run_input.specs.declared.query.Query.{Query}
 use Rattle.graph_core.specs.Graphs.{Content}
-use Rattle.run_task.specs.Problems.{Problem}
+use Rattle.run_task.specs.Problems.{Problem, apart}
 use Rattle.run_task.specs.Verdicts.{GraphAt, IsValidLock, Judges}
 use Rattle.run_task.specs.Certificates.{ShowsOf, certified_at, log_verdict}
 use Rattle.trial_input.specs.Inputs.{input_files}
@@ -22,6 +22,7 @@ use Rattle.run_task.specs.Shown.{ComparesLock, IsBestLock, IsSeen, IsSeenOver, I
 use Rattle.run_task.specs.Tasks.{
   AcceptanceOf,
   CheckOf,
+  ChecksOf,
   ComparisonOf,
   HasSpecs,
   HasSpecsBy,
@@ -121,6 +122,14 @@ module _ (before : Option Files) (command : Command) (input : Input) (result : R
       (subst (λ (p : List ℕ). IfSome before (λ files. Gives result (CheckOf log_verdict files command.lock p input.problem))) too
       (subst (λ (p : List ℕ). IfSome before (λ files. Gives result (CheckOf log_verdict files p cert input.problem))) same read))
 
+  -- `check_each`
+  pub each_checked : (dir : List ℕ) → command.work ≡ works.CheckEach → dir ≡ command.lock
+      → IfSome before (λ files. Gives result (ChecksOf log_verdict files dir 0 (apart input.problem)))
+      → IfSome before (λ files. Gives result (TaskBy log_verdict command.work files command input))
+  each_checked dir work same read =
+      by_work works.CheckEach work
+      (subst (λ (p : List ℕ). IfSome before (λ files. Gives result (ChecksOf log_verdict files p 0 (apart input.problem)))) same read)
+
   -- `refute`
   pub refuted : (cert : List ℕ) → command.work ≡ works.Refute → cert ≡ command.cert
       → IfSome before (λ files. Gives result (AcceptanceOf log_verdict files cert input.problem None))
@@ -142,6 +151,10 @@ yes_of_check other is = absurd is
 yes_of_refute : (task : Task) → IsYes task → IsOf works.Refute task
 yes_of_refute tasks.Accepted is = tt
 yes_of_refute other is = absurd is
+
+yes_of_checks : (task : Task) → IsYes task → IsOf works.CheckEach task
+yes_of_checks tasks.Accepted is = tt
+yes_of_checks other is = absurd is
 
 comparison_of : (task : Task) → IsComparisonTask task → IsOf works.Fresh task
 comparison_of (tasks.Compare input numbers) is = tt
@@ -174,6 +187,11 @@ module _ (command : Command) where
   pub checked_work : (result : Result Task ReadStop) → command.work ≡ works.Check → IfOk result IsYes
       → IfOk result (λ task. IsOf command.work task)
   checked_work result same is = by_task works.Check IsYes same yes_of_check result is
+
+  -- `check_each` says yes
+  pub each_checked_work : (result : Result Task ReadStop) → command.work ≡ works.CheckEach → IfOk result IsYes
+      → IfOk result (λ task. IsOf command.work task)
+  each_checked_work result same is = by_task works.CheckEach IsYes same yes_of_checks result is
 
   -- `refute` says yes
   pub refuted_work : (result : Result Task ReadStop) → command.work ≡ works.Refute → IfOk result IsYes
@@ -241,7 +259,7 @@ compared_seen command input (Err stop) before lock work same seen = tt
 
 -- ---- which work looks for installed packages
 
-is_find : (work : Work) → is_search work ≡ true → work ≡ works.Find
+pub is_find : (work : Work) → is_search work ≡ true → work ≡ works.Find
 is_find works.Find is = refl
 is_find works.Concretize is = absurd (false≢true is)
 is_find works.Judge is = absurd (false≢true is)
@@ -251,6 +269,8 @@ is_find works.Refute is = absurd (false≢true is)
 is_find works.Explain is = absurd (false≢true is)
 is_find works.Reasons is = absurd (false≢true is)
 is_find works.Plan is = absurd (false≢true is)
+is_find works.Each is = absurd (false≢true is)
+is_find works.CheckEach is = absurd (false≢true is)
 is_find (works.Trial packages seed) is = absurd (false≢true is)
 
 module _ (command : Command) (result : Result Task ReadStop) where

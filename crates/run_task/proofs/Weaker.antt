@@ -1,18 +1,19 @@
 -- What is posed by some verdicts on certificates is posed by others that allow more.
-use Rattle.std.proofs.Common.{sym, subst, ℕ, Bool, true, false, List, Option, Some, None, Result, Ok, Err, inl, inr}
+use Rattle.std.proofs.Common.{sym, subst, ℕ, ◌+◌, [], ◌∷◌, Bool, true, false, List, Option, Some, None, Result, Ok, Err, inl, inr}
 use Rattle.outside_desk.specs.Files.{Files}
-use Rattle.run_input.specs.Stages.{Is, Then}
+use Rattle.run_input.specs.Stages.{Is, Then, InRoot}
 use Rattle.run_input.specs.Refusal.{Refusal}
 use Rattle.run_input.specs.Words.{Command}
 use Rattle.run_input.specs.Work.{Work}
 use Rattle.run_input.specs.Work.TheVariants as works
 use Rattle.run_input.specs.Inputs.{ReadsInput}
 use Rattle.run_input.specs.declared.input.Input.{Input}
-use Rattle.run_task.specs.Problems.{Problem}
+use Rattle.run_task.specs.Problems.{Problem, apart}
+use Rattle.run_task.specs.Places.{cert_at, lock_at}
 use Rattle.run_task.specs.Verdicts.{Judges}
 use Rattle.run_task.specs.CertificateVerdicts.{CertificateVerdicts, MayBeSaid, any_verdict, no_verdict}
 use Rattle.run_task.specs.Certificates.{certified_at, log_verdict}
-use Rattle.run_task.specs.Tasks.{AcceptanceOf, OverUnless, Poses, TaskBy, files_for, is_search}
+use Rattle.run_task.specs.Tasks.{AcceptanceOf, CheckOf, ChecksOf, OverUnless, Poses, TaskBy, files_for, is_search}
 use Rattle.run_task.specs.declared.task.Task.{Task}
 use Rattle.run_task.specs.declared.task.Task.TheVariants as tasks
 
@@ -35,16 +36,34 @@ module _ (some more : CertificateVerdicts) (allows : Allows some more) where
       then_more (some files cert problem numbers) (more files cert problem numbers) (λ done. Is (Ok tasks.Accepted)) (λ done. Is (Ok tasks.Accepted))
       (allows files cert problem numbers) (λ done r is. is)
 
+  checks : (files : Files) (lock cert : List ℕ) (problem : Problem) (r : Result Task Refusal)
+      → CheckOf some files lock cert problem r → CheckOf more files lock cert problem r
+  checks files lock cert problem =
+      then_more (Judges files lock problem) (Judges files lock problem) (λ numbers. AcceptanceOf some files cert problem (Some numbers))
+      (λ numbers. AcceptanceOf more files cert problem (Some numbers)) (λ s judged. judged) (λ numbers. accepts files cert problem (Some numbers))
+
+  checks_in : (root : ℕ) (files : Files) (lock cert : List ℕ) (problem : Problem) (r : Result Task Refusal)
+      → InRoot root (CheckOf some files lock cert problem) r → InRoot root (CheckOf more files lock cert problem) r
+  checks_in root files lock cert problem (Ok task) is = checks files lock cert problem (Ok task) is
+  checks_in root files lock cert problem (Err refusal) (inner, is, same) = (inner, checks files lock cert problem (Err inner) is, same)
+
+  checks_all : (files : Files) (dir : List ℕ) (root : ℕ) (problems : List Problem) (r : Result Task Refusal)
+      → ChecksOf some files dir root problems r → ChecksOf more files dir root problems r
+  checks_all files dir root [] = λ r is. is
+  checks_all files dir root (problem ∷ others) =
+      then_more (InRoot root (CheckOf some files (lock_at dir root) (cert_at dir root) problem))
+      (InRoot root (CheckOf more files (lock_at dir root) (cert_at dir root) problem)) (λ done. ChecksOf some files dir (root + 1) others)
+      (λ done. ChecksOf more files dir (root + 1) others) (checks_in root files (lock_at dir root) (cert_at dir root) problem)
+      (λ done. checks_all files dir (root + 1) others)
+
   by_work : (work : Work) (files : Files) (command : Command) (input : Input) (r : Result Task Refusal)
       → TaskBy some work files command input r → TaskBy more work files command input r
   by_work works.Concretize files command input r is = is
   by_work works.Judge files command input r is = is
-  by_work works.Check files command input r is =
-      then_more (Judges files command.lock input.problem) (Judges files command.lock input.problem)
-      (λ numbers. AcceptanceOf some files command.cert input.problem (Some numbers))
-      (λ numbers. AcceptanceOf more files command.cert input.problem (Some numbers))
-      (λ s judged. judged) (λ numbers. accepts files command.cert input.problem (Some numbers)) r is
+  by_work works.Check files command input r is = checks files command.lock command.cert input.problem r is
   by_work works.Refute files command input r is = accepts files command.cert input.problem None r is
+  by_work works.Each files command input r is = is
+  by_work works.CheckEach files command input r is = checks_all files command.lock 0 (apart input.problem) r is
   by_work works.Explain files command input r is = is
   by_work works.Reasons files command input r is = is
   by_work works.Fresh files command input r is = is

@@ -1,5 +1,5 @@
 -- What is said of a certificate: that it is right, or the refusal that is due first.
-use Rattle.std.specs.Prelude.{◌≡◌, ℕ, ◌-◌, ◌^◌, nat_le, Bool, true, ◌||◌, List, [], take, length, Option, Some, None, Result, Ok, Err, if◌then◌else◌}
+use Rattle.std.specs.Prelude.{◌≡◌, ℕ, ◌-◌, ◌^◌, nat_le, true, ◌||◌, List, [], take, length, Option, Some, None, Result, Ok, Err, if◌then◌else◌}
 use Rattle.std.specs.Option.{option_map}
 use Rattle.std.specs.FinMap.{get}
 use Rattle.outside_desk.specs.Files.{Files}
@@ -18,7 +18,7 @@ use Rattle.graph_rules.specs.Valid.{valid}
 use Rattle.graph_rules.specs.Costs.{vector}
 use Rattle.graph_rules.specs.Optimal.{IsOptimal, HasNoGraph}
 use Rattle.best_graph.specs.OfProblemEncoding.Built.{encoding_of, rule_clauses}
-use Rattle.run_answers.specs.Stages.{◌>>=◌, or_refuse, Is}
+use Rattle.run_answers.specs.Stages.{or_refuse, Is, ◌>>=◌}
 use Rattle.run_answers.specs.declared.refusal.Refusal.{Refusal}
 use Rattle.run_answers.specs.declared.refusal.Refusal.TheVariants as refusals
 use Rattle.run_answers.specs.declared.line_fault.LineFault.{LineFault}

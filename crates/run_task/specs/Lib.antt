@@ -17,8 +17,9 @@ pub use Rattle.best_graph.specs.declared.least_explanation.LeastExplanation
 pub use Rattle.best_graph.specs.Answers
 pub use Rattle.best_graph.specs.declared.answer.Answer
 pub use Rattle.best_graph.specs.OfProblemEncoding.Built
-pub mod Again
+pub mod Places
 pub mod Tasks
+pub mod Again
 pub mod Shown
 pub use Rattle.run_input.specs.Exits
 pub use Rattle.run_input.specs.Lines

@@ -1,5 +1,5 @@
 -- Where the reading of a certificate stands, and what one piece more leaves.
-use Rattle.std.specs.Prelude.{◌≡◌, ℕ, ◌<◌, ◌≤◌, Bool, true, false, List, take, length, Option, None, IsSomeAnd, Result, Ok, Err}
+use Rattle.std.specs.Prelude.{◌≡◌, ℕ, ◌<◌, ◌≤◌, Bool, true, false, List, take, Option, None, IsSomeAnd, Result, Ok, Err}
 use Rattle.log_checker.specs.Steps.{CheckerState}
 use Rattle.certified.specs.Texts.{Stage, IsAfter, answer_at, is_settled_by}
 use Rattle.outside_desk.specs.Files.{IsPiece}

@@ -1,5 +1,5 @@
--- What the yes of `check`, of `fresh` and of `refute` shows, and the no of `fresh`.
-use Rattle.std.specs.Prelude.{◌≡◌, ℕ, Bool, true, false, List, Ok}
+-- What the yes of `check`, of `check_each`, of `fresh` and of `refute` shows, and the no of `fresh`.
+use Rattle.std.specs.Prelude.{◌≡◌, ℕ, ◌+◌, Bool, true, false, List, [], ◌∷◌, Ok}
 use Rattle.outside_desk.specs.Files.{Files}
 use Rattle.graph_core.specs.Graphs.{Content}
 use Rattle.problem.specs.Nodes.{IsWellFormed}
@@ -10,7 +10,8 @@ use Rattle.run_input.specs.Work.{Work}
 use Rattle.run_input.specs.Work.TheVariants as works
 use Rattle.run_input.specs.Inputs.{ReadsInput}
 use Rattle.run_input.specs.declared.input.Input.{Input}
-use Rattle.run_task.specs.Problems.{Problem}
+use Rattle.run_task.specs.Problems.{Problem, apart}
+use Rattle.run_task.specs.Places.{lock_at}
 use Rattle.run_task.specs.Verdicts.{IsValidLock}
 use Rattle.run_task.specs.Tasks.{files_for, is_search}
 use Rattle.run_task.specs.declared.task.Task.{Task}
@@ -32,11 +33,17 @@ pub record IsOutdoneLock (files : Files) (path : List ℕ) (problem : Problem) :
   pub optimal : IsOptimal problem best
   pub less : smaller (vector problem best) costs ≡ true
 
+-- the lock files of problems apart, whose files have numbers from this one on, are the best
+abbrev pub AreBestLocks : Files → List ℕ → ℕ → List Problem → Type 0
+AreBestLocks files dir root [] = Unit {0}
+AreBestLocks files dir root (problem ∷ more) = IsBestLock files (lock_at dir root) problem × AreBestLocks files dir (root + 1) more
+
 -- what a command's yes shows of the problem that was read
 abbrev pub ShownBy : Work → Files → Command → Problem → Type 0
 ShownBy works.Check files command problem = IsBestLock files command.lock problem
 ShownBy works.Fresh files command problem = IsBestLock files command.lock problem
 ShownBy works.Refute files command problem = HasNoGraph problem
+ShownBy works.CheckEach files command problem = AreBestLocks files command.lock 0 (apart problem)
 ShownBy other files command problem = Unit {0}
 
 -- what its no shows
@@ -49,11 +56,12 @@ abbrev pub ComparesLock : Files → List ℕ → Problem → Task → Type 0
 ComparesLock files path problem (tasks.Compare input numbers) = (input.problem ≡ problem) × IsValidLock files path problem numbers
 ComparesLock files path problem other = ⊥
 
--- what reading alone shows of a task: of `check` and `refute` all that their yes does, of `fresh` that the lock file is right and has
+-- what reading alone shows of a task: of `check`, `check_each` and `refute` all that their yes does, of `fresh` that the lock file is right and has
 -- the costs that are to be compared
 abbrev pub SeenBy : Work → Task → Files → Command → Problem → Type 0
 SeenBy works.Check task files command problem = IsBestLock files command.lock problem
 SeenBy works.Refute task files command problem = HasNoGraph problem
+SeenBy works.CheckEach task files command problem = AreBestLocks files command.lock 0 (apart problem)
 SeenBy works.Fresh task files command problem = ComparesLock files command.lock problem task
 SeenBy other task files command problem = Unit {0}
 

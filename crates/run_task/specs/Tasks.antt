@@ -1,12 +1,12 @@
 -- What a run is to answer, or the refusal that is due first.
-use Rattle.std.specs.Prelude.{◌≡◌, ◌⊎◌, ℕ, Bool, true, false, List, All, Option, Some, None, Result, Ok, Err}
+use Rattle.std.specs.Prelude.{◌≡◌, ◌⊎◌, ℕ, ◌+◌, Bool, true, false, List, [], ◌∷◌, All, Option, Some, None, Result, Ok, Err}
 use Rattle.std.specs.Str.{IsUtf8}
 use Rattle.outside_desk.specs.Files.{Files}
 use Rattle.graph_core.specs.OfReachability.Paths.{IsAcyclic}
 use Rattle.graph_core.specs.Paths.{JoinedIn}
 use Rattle.spec_grammar.specs.Canonical.{spec_text}
 use Rattle.spec_grammar.specs.declared.part.Spec.{Spec}
-use Rattle.run_input.specs.Stages.{Is, Then}
+use Rattle.run_input.specs.Stages.{Is, Then, InRoot}
 use Rattle.run_input.specs.Refusal.{Refusal}
 use Rattle.run_input.specs.ReadStop.{ReadStop}
 use Rattle.run_input.specs.ReadStop.TheVariants as reads
@@ -16,9 +16,10 @@ use Rattle.run_input.specs.Work.TheVariants as works
 use Rattle.run_input.specs.Inputs.{ReadsInput, Seeks, IsInputPath, IsPosed}
 use Rattle.run_input.specs.Roots.{RootsOf, ConditionOf}
 use Rattle.run_input.specs.declared.input.Input.{Input}
-use Rattle.run_task.specs.Problems.{Problem}
+use Rattle.run_task.specs.Problems.{Problem, apart}
 use Rattle.run_task.specs.Verdicts.{GraphAt, HasCosts, Judges}
 use Rattle.run_task.specs.CertificateVerdicts.{CertificateVerdicts}
+use Rattle.run_task.specs.Places.{IsRootFile, cert_at, lock_at}
 use Rattle.trial_input.specs.Inputs.{input_files}
 use Rattle.run_task.specs.declared.task.Task.{Task}
 use Rattle.run_task.specs.declared.task.Task.TheVariants as tasks
@@ -34,6 +35,8 @@ made_for works.Reasons = None
 made_for works.Fresh = None
 made_for works.Find = None
 made_for works.Plan = None
+made_for works.Each = None
+made_for works.CheckEach = None
 made_for (works.Trial packages seed) = Some (packages, seed)
 
 abbrev pub files_by : Option (ℕ × ℕ) → Files → Files
@@ -70,8 +73,15 @@ module _ (verdicts : CertificateVerdicts) where
   abbrev pub CheckOf : Files → List ℕ → List ℕ → Problem → Result Task Refusal → Type 0
   CheckOf files lock cert problem = Then (Judges files lock problem) (λ numbers. AcceptanceOf files cert problem (Some numbers))
 
-  -- a command's own work over what was read: `concretize`, `explain`, `reasons` and `trial` have a problem to solve, `judge` says what is
-  -- said of the lock file, `check` and `refute` of the certificate; `fresh` and `plan` do as `judge` first
+  -- of the lock files and the certificates of problems apart, whose files have numbers from this one on: the first problem of which
+  -- one is refused gives the refusal, which says its number
+  abbrev pub ChecksOf : Files → List ℕ → ℕ → List Problem → Result Task Refusal → Type 0
+  ChecksOf files dir root [] = Is (Ok tasks.Accepted)
+  ChecksOf files dir root (problem ∷ more) =
+      Then (InRoot root (CheckOf files (lock_at dir root) (cert_at dir root) problem)) (λ done. ChecksOf files dir (root + 1) more)
+
+  -- a command's own work over what was read: `concretize`, `each`, `explain`, `reasons` and `trial` have a problem to solve, `judge` says what is
+  -- said of the lock file, `check` and `refute` of the certificate; `fresh` and `plan` do as `judge` first, and `check_each` as `check` for each root by itself
   abbrev pub TaskBy : Work → Files → Command → Input → Result Task Refusal → Type 0
   TaskBy works.Concretize files command input = Is (Ok (tasks.Solve input))
   TaskBy works.Judge files command input = ReportOf files command.lock input.problem
@@ -79,6 +89,8 @@ module _ (verdicts : CertificateVerdicts) where
   TaskBy works.Fresh files command input = ComparisonOf files command.lock input
   TaskBy works.Plan files command input = PlanOf files command.lock input.problem
   TaskBy works.Refute files command input = AcceptanceOf files command.cert input.problem None
+  TaskBy works.Each files command input = Is (Ok (tasks.Each input))
+  TaskBy works.CheckEach files command input = ChecksOf files command.lock 0 (apart input.problem)
   TaskBy works.Explain files command input = Is (Ok (tasks.Explain input))
   TaskBy works.Reasons files command input = Is (Ok (tasks.Reasons input))
   TaskBy works.Find files command input = λ posed. ⊥
@@ -111,6 +123,8 @@ IsOf works.Reasons (tasks.Reasons input) = Unit {0}
 IsOf works.Fresh (tasks.Compare input numbers) = Unit {0}
 IsOf works.Find (tasks.Find query) = Unit {0}
 IsOf works.Plan (tasks.Plan graph) = Unit {0}
+IsOf works.Each (tasks.Each input) = Unit {0}
+IsOf works.CheckEach tasks.Accepted = Unit {0}
 IsOf (works.Trial packages seed) (tasks.Try input) = Unit {0}
 IsOf other task = ⊥
 
@@ -123,6 +137,7 @@ IsReadyInput input = All (λ spec. IsUtf8 (spec_text spec)) input.problem.roots 
 -- order has no cycle
 abbrev pub IsReady : Task → Type 0
 IsReady (tasks.Solve input) = IsReadyInput input
+IsReady (tasks.Each input) = IsReadyInput input
 IsReady (tasks.Explain input) = IsReadyInput input
 IsReady (tasks.Reasons input) = IsReadyInput input
 IsReady (tasks.Try input) = IsReadyInput input
@@ -161,15 +176,22 @@ HasSpecsBy false text = (roots : List Spec) × RootsOf text (Ok roots)
 abbrev pub HasSpecs : Command → Type 0
 HasSpecs command = HasSpecsBy (is_search command.work) command.spec
 
+-- where each root is solved by itself, the roots are those that the text of the specs asks for
+abbrev pub HasRoots : List ℕ → Task → Type 0
+HasRoots text (tasks.Each input) = RootsOf text (Ok input.problem.roots)
+HasRoots text other = Unit {0}
+
 -- ---- faults of devices
 
--- the lock file is read by `judge`, `check`, `fresh` and `plan`, the certificate by `check` and `refute`
+-- the lock file is read by `judge`, `check`, `fresh` and `plan`, the certificate by `check` and `refute`, and those of all roots by
+-- `check_each`
 abbrev pub IsKeptPath : Work → Command → List ℕ → Type 0
 IsKeptPath works.Judge command path = path ≡ command.lock
 IsKeptPath works.Check command path = (path ≡ command.lock) ⊎ (path ≡ command.cert)
 IsKeptPath works.Fresh command path = path ≡ command.lock
 IsKeptPath works.Plan command path = path ≡ command.lock
 IsKeptPath works.Refute command path = path ≡ command.cert
+IsKeptPath works.CheckEach command path = IsRootFile command path
 IsKeptPath other command path = ⊥
 
 -- what is read: the input, and what the command looks at besides

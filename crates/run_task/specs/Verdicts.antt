@@ -10,7 +10,7 @@ use Rattle.graph_rules.specs.Costs.{vector}
 use Rattle.problem.specs.Nodes.{IsWellFormed}
 use Rattle.graph_rules.specs.Valid.{valid}
 use Rattle.lockfile.specs.declared.lock.Lock.{Lock}
-use Rattle.run_input.specs.Stages.{Is, Then, ◌>>=◌, check}
+use Rattle.run_input.specs.Stages.{Is, Then, check, ◌>>=◌}
 use Rattle.run_input.specs.Refusal.{Refusal}
 use Rattle.run_input.specs.Refusal.TheVariants as refusals
 use Rattle.run_task.specs.Locks.{NamedAt}

@@ -10,12 +10,15 @@
 #![tactic(auto)]
 
 mod accepted_again;
+mod alone;
 mod certificate;
 mod certificate_sayings;
+mod each_check;
 mod lock;
 mod looks;
 mod one_verdict;
 mod pieces;
+mod places;
 mod posed_tasks;
 mod roots;
 mod task;
@@ -25,15 +28,18 @@ mod whole;
 
 // What crates above answer with.
 pub use accepted_again::again_laws;
+pub use alone::alone_input;
 pub use best_graph::{
     Answer, Explanation, LeastExplanation, Progress, Stage, Untold, best_graph, explain,
     explain_least,
 };
 pub use certificate::read_certificate;
+pub use possible_closure::alone_laws;
 // The cost vector, for crates above.
 pub use certificate_sayings::certificate_laws;
 pub use cost_vector::vector;
 pub use one_verdict::verdict_laws;
+pub use places::{cert_at, lock_at};
 pub use posed_tasks::task_laws;
 pub use run_input::{
     Command, Input, Query, ReadStop, Refusal, Status, Stop, Work, WriteStop, is_dash, read_command,

@@ -1,6 +1,6 @@
 //! The reading of a task.
 
-ghost use Rattle.std.specs.Prelude.{◌≡◌, true, false, All, Some, None, IfOk, IfSome};
+ghost use Rattle.std.specs.Prelude.{◌≡◌, true, false, All, Ok, Some, None, IfOk, IfSome};
 ghost use Rattle.std.specs.Str.{IsUtf8};
 ghost use Rattle.run_input.specs.Inputs.{IsPosed};
 ghost use Rattle.spec_grammar.specs.Canonical.{spec_text};
@@ -9,8 +9,10 @@ ghost use Rattle.run_input.specs.Stops.{Gives, EndsInReadFault};
 ghost use Rattle.run_task.specs.Certificates.{log_verdict};
 ghost use Rattle.trial_input.specs.Inputs.{input_files};
 ghost use Rattle.run_task.specs.Shown.{IsSeen, IsSeenOver, IsShownOver, SeenBy};
-ghost use Rattle.run_task.specs.Tasks.{TaskBy, Over, OverUnless, Named, IsOf, IsReady, HasSpecs, HasSpecsBy, FailsAtTask, is_search, made_for};
+ghost use Rattle.run_task.specs.Tasks.{TaskBy, Over, OverUnless, Named, IsOf, IsReady, HasSpecs, HasSpecsBy, FailsAtTask, HasRoots, is_search, made_for};
+ghost use Rattle.run_input.specs.Roots.{RootsOf};
 
+use crate::each_check::read_each_check;
 use crate::looks::{read_acceptance, read_check, read_comparison, read_plan, read_report};
 use graph_core::Graph;
 use outside_desk::Desk;
@@ -29,6 +31,8 @@ pub enum Task {
     Report([u64; 31]),
     /// The certificate is right.
     Accepted,
+    /// The best graph of each root by itself is to be found.
+    Each(Input),
     /// It is to be said whether there is a graph, and else why there is none.
     Explain(Input),
     /// It is to be said whether there is a graph, and else a list of demands of which none can be left out, with the graphs that show
@@ -54,6 +58,7 @@ fn task_by<R: Threads + Sync, D: Desk>(
 ) -> Result<Task, ReadStop>
     requires texts { All (λ spec. IsUtf8 (spec_text spec)) input.problem.roots }
     requires posed { IsPosed input }
+    requires roots { RootsOf command.now.spec (Ok input.problem.roots) }
     requires no_search { is_search command.now.work ≡ false }
     ensures read { IfSome (D.files desk.old)
         (λ files. Gives result (TaskBy log_verdict command.now.work files command.now input)) }
@@ -61,11 +66,18 @@ fn task_by<R: Threads + Sync, D: Desk>(
         (λ files. SeenBy command.now.work task files command.now input.problem)) }
     ensures work { IfOk result (λ task. IsOf command.now.work task) }
     ensures ready { IfOk result (λ task. IsReady task) }
+    ensures roots { IfOk result (λ task. HasRoots command.now.spec task) }
     ensures path { FailsAtTask (D.files desk.old) command.now result }
     ensures only_reads { OnlyReads D.files D.faults D.put_faults desk.old desk.new result }
 {
     match command.work {
         Work::Concretize => Ok(Task::Solve(input)),
+        Work::Each => Ok(Task::Each(input)),
+        Work::CheckEach => {
+            let task = read_each_check(rt, alloc, desk, command.lock, &input);
+            drop(input);
+            task
+        }
         Work::Explain => Ok(Task::Explain(input)),
         Work::Reasons => Ok(Task::Reasons(input)),
         Work::Trial { .. } => Ok(Task::Try(input)),
@@ -108,6 +120,7 @@ fn read_posed<R: Threads + Sync, D: Desk>(
         (λ files. IsShownOver (SeenBy command.now.work task) files command.now)) }
     ensures work { IfOk result (λ task. IsOf command.now.work task) }
     ensures ready { IfOk result (λ task. IsReady task) }
+    ensures roots { IfOk result (λ task. HasRoots command.now.spec task) }
     ensures specs { IfOk result (λ task. HasSpecsBy false command.now.spec) }
     ensures path { FailsAtTask (D.files desk.old) command.now result }
     ensures only_reads { OnlyReads D.files D.faults D.put_faults desk.old desk.new result }
@@ -129,6 +142,7 @@ fn read_search<R: Threads + Sync, D: Desk>(
     ensures read { IfSome (D.files desk.old) (λ files. Gives result (OverUnless log_verdict true files command.now)) }
     ensures work { IfOk result (λ task. IsOf Work.Find task) }
     ensures ready { IfOk result (λ task. IsReady task) }
+    ensures roots { IfOk result (λ task. HasRoots command.now.spec task) }
     ensures specs { IfOk result (λ task. HasSpecsBy true command.now.spec) }
     ensures path { FailsAtTask (D.files desk.old) command.now result }
     ensures only_reads { OnlyReads D.files D.faults D.put_faults desk.old desk.new result }
@@ -153,6 +167,8 @@ fn is_search(work: Work) -> bool
         | Work::Explain
         | Work::Reasons
         | Work::Plan
+        | Work::Each
+        | Work::CheckEach
         | Work::Trial { .. } => false,
     }
 }
@@ -169,6 +185,7 @@ fn read_over<R: Threads + Sync, D: Desk>(
         (λ files. IsSeenOver files command.now task)) }
     ensures work { IfOk result (λ task. IsOf command.now.work task) }
     ensures ready { IfOk result (λ task. IsReady task) }
+    ensures roots { IfOk result (λ task. HasRoots command.now.spec task) }
     ensures specs { IfOk result (λ task. HasSpecs command.now) }
     ensures path { FailsAtTask (D.files desk.old) command.now result }
     ensures only_reads { OnlyReads D.files D.faults D.put_faults desk.old desk.new result }
@@ -194,6 +211,8 @@ fn made_for(work: Work) -> Option<(u64, u64)>
         | Work::Explain
         | Work::Reasons
         | Work::Find
+        | Work::Each
+        | Work::CheckEach
         | Work::Plan => None,
     }
 }
@@ -210,6 +229,7 @@ fn read_made<R: Threads + Sync>(
     ensures seen { IfOk result (λ task. IsSeenOver (input_files packages seed) command.now task) }
     ensures work { IfOk result (λ task. IsOf command.now.work task) }
     ensures ready { IfOk result (λ task. IsReady task) }
+    ensures roots { IfOk result (λ task. HasRoots command.now.spec task) }
     ensures specs { IfOk result (λ task. HasSpecs command.now) }
     ensures no_fault { EndsInReadFault result → ⊥ }
 {
@@ -236,6 +256,7 @@ pub fn read_task<R: Threads + Sync, D: Desk>(
         (λ files. IsSeen files command.now task)) }
     ensures work { IfOk result (λ task. IsOf command.now.work task) }
     ensures ready { IfOk result (λ task. IsReady task) }
+    ensures roots { IfOk result (λ task. HasRoots command.now.spec task) }
     ensures specs { IfOk result (λ task. HasSpecs command.now) }
     ensures path { FailsAtTask (D.files desk.old) command.now result }
     ensures only_reads { OnlyReads D.files D.faults D.put_faults desk.old desk.new result }

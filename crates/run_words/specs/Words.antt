@@ -31,7 +31,8 @@ is_same_path a b = bytes_eq a b
 unfoldable pub is_dash_path : List ℕ → Bool
 is_dash_path path = bytes_eq path (codes "-")
 
--- what the words behind a verb say, of which those of the spec are joined; `-` where a command has no such file
+-- what the words behind a verb say, of which those of the spec are joined; `-` where a command has no such file. For the lock file
+-- of a command over each root stands the folder DIR
 pub record Command : Type 0 where
   pub work : Work
   pub repo : List ℕ
@@ -47,7 +48,7 @@ pub record Command : Type 0 where
 abbrev pub row : Work → FileWord → FileWord → Option Verb
 row work lock cert = Some (record { work = work; lock = lock; cert = cert })
 
--- the verbs over files, by their names: whether LOCK and whether CERT is a word, and whether `-` may stand there for none
+-- the verbs over files, by their names: whether LOCK, or DIR in its place, and whether CERT is a word, and whether `-` may stand there for none
 unfoldable pub verb_of : List ℕ → Option Verb
 verb_of name =
     if is_same_path name (codes "concretize") then row works.Concretize Needed Optional
@@ -59,6 +60,8 @@ verb_of name =
     else if is_same_path name (codes "reasons") then row works.Reasons Absent Absent
     else if is_same_path name (codes "find") then row works.Find Absent Absent
     else if is_same_path name (codes "plan") then row works.Plan Needed Absent
+    else if is_same_path name (codes "each") then row works.Each Needed Absent
+    else if is_same_path name (codes "check_each") then row works.CheckEach Needed Absent
     else None
 
 -- ---- the words behind a verb

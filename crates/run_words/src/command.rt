@@ -31,20 +31,24 @@ pub enum Work {
     Find,
     /// Says in which order the graph of a lock file can be built.
     Plan,
+    /// Finds the best graph of each spec by itself.
+    Each,
+    /// Checks for each spec by itself whether its certificate shows that its lock file is the best.
+    CheckEach,
     /// Finds the best graph of a repository that is made in memory, of 1 to 1,000 packages.
     Trial { packages: u64, seed: u64 },
 }
 
 /// What the words behind a verb say: `concretize` and `check REPO SETTINGS DATABASE LOCK CERT SPEC`,
 /// `judge`, `fresh` and `plan REPO SETTINGS DATABASE LOCK SPEC`, `refute REPO SETTINGS DATABASE CERT SPEC`,
-/// `explain`, `reasons` and `find REPO SETTINGS DATABASE SPEC`, `trial N SEED`.
+/// `explain`, `reasons` and `find REPO SETTINGS DATABASE SPEC`, `each` and `check_each REPO SETTINGS DATABASE DIR SPEC`, `trial N SEED`.
 #[derive(Debug, Drop)]
 pub struct Command<'a> {
     pub work: Work,
     pub repo: &'a str,
     pub settings: &'a str,
     pub database: &'a str,
-    /// `-` where there is none.
+    /// The lock file, or the folder of many; `-` where there is none.
     pub lock: &'a str,
     /// `-` where there is none.
     pub cert: &'a str,

@@ -20,7 +20,7 @@ pub enum FileWord {
 }
 
 /// A verb over files: what its command does, and which files stand among the words behind it, which are
-/// `REPO SETTINGS DATABASE`, LOCK and CERT where they are words of it, and `SPEC..`.
+/// `REPO SETTINGS DATABASE`, LOCK, or DIR in its place, and CERT where they are words of it, and `SPEC..`.
 #[derive(Clone, Copy)]
 pub struct Verb {
     pub work: Work,
@@ -58,6 +58,10 @@ fn verb_of(name: &str) -> Option<Verb>
         row(Work::Find, FileWord::Absent, FileWord::Absent)
     } else if is_same(name, "plan") {
         row(Work::Plan, FileWord::Needed, FileWord::Absent)
+    } else if is_same(name, "each") {
+        row(Work::Each, FileWord::Needed, FileWord::Absent)
+    } else if is_same(name, "check_each") {
+        row(Work::CheckEach, FileWord::Needed, FileWord::Absent)
     } else {
         None
     }

@@ -15,10 +15,10 @@ use Rattle.problem.specs.Problems.{same_compiler}
 use Rattle.literal_table.specs.Choices.{Choices, chosen}
 use Rattle.literal_table.specs.Tables.{AreVariantsInOrder, variant_of, value_of}
 use Rattle.literal_table.specs.Spells.{SpellsNode, values_at, variants_of}
-use Rattle.table_plan.specs.Plans.{same_origin}
+use Rattle.problem.specs.Nodes.{same_origin}
 use Rattle.table_plan.specs.Offers.{Offers, OffersVariant, IsPossible, AreVariants}
 use Rattle.table_plan.specs.declared.plan.Possible.{Possible}
-use Rattle.table_plan.proofs.NodeLaws.{origins_exact, options_exact, compilers_exact}
+use Rattle.table_plan.proofs.ExactTests.{origins_exact, options_exact, compilers_exact}
 use Rattle.table_plan.specs.Numbers.{positive_lit, numbered, variants_from, width_of, value_count, block_width, block_at, block_from}
 use Rattle.table_plan.specs.Spellings.{bits_of, value_bits, node_bits}
 use Rattle.table_plan.proofs.ReadLaws.{Reads, reads_parts}

@@ -1,6 +1,6 @@
 -- The table of a plan spells each graph that the plan offers.
-use Rattle.std.proofs.Common.{◌≡◌, refl, sym, ap, subst, ◌∙◌, ℕ, ◌+◌, ◌*◌, ◌<◌, ◌≤◌, Bool, true, false, ◌||◌, cond, List, [], ◌∷◌, ◌++◌, map, filter, length, Option, Some, None, Contains, All, ◌⊎◌, inl, inr, ⊎_elim, arith}
-use Rattle.std.specs.Option.{option_map, option_to_list, is_some}
+use Rattle.std.proofs.Common.{◌≡◌, refl, sym, ap, subst, ◌∙◌, ℕ, ◌+◌, Bool, true, false, List, [], ◌∷◌, ◌++◌, map, length, Option, Some, None, Contains, All, ◌⊎◌, ⊎_elim, arith}
+use Rattle.std.specs.Option.{option_to_list}
 use Rattle.std.specs.Ordering.{eq_by_cmp, is_eq}
 use Rattle.std.specs.declared.cmp.Ordering.TheVariants.{Less, Equal}
 use Rattle.std.specs.Str.{bytes_eq}
@@ -10,7 +10,7 @@ use Rattle.std.specs.List.Sorted.{IsStrictlySortedBy}
 use Rattle.std.proofs.lemmas.Bool.{cases_Bool, false≢true}
 use Rattle.std.proofs.lemmas.List.{length-map, length-append}
 use Rattle.std.proofs.lemmas.List.Elements.{All-contains}
-use Rattle.reachability.proofs.CountLaws.{has_first, has_later, first_or_later, has_image, image_of}
+use Rattle.reachability.proofs.CountLaws.{has_first, has_later, first_or_later, has_image}
 use Rattle.variant_values.specs.Texts.{byte_cmp, IsInByteOrder}
 use Rattle.keyed_lists.specs.Keyed.{IsInOrder, find_key}
 use Rattle.keyed_lists.proofs.RiseLaws.{all_from, rises_above, rises_none, rises_rest}
@@ -19,13 +19,11 @@ use Rattle.graph_core.specs.Graphs.{Text, Content, pair_cmp, node_of, edge_of, p
 use Rattle.graph_core.proofs.PairLaws.{pair_exact, pair_total}
 use Rattle.graph_core.specs.declared.node.Node.{Node}
 use Rattle.graph_core.specs.declared.node.Edge.{Edge}
-use Rattle.graph_core.specs.declared.node.Kinds.{Kinds}
 use Rattle.condition_rules.specs.Words.{is_one_text, is_some_and}
 use Rattle.problem.specs.Nodes.{has_kind}
-use Rattle.literal_table.specs.Choices.{Choices, chosen}
-use Rattle.literal_table.specs.Tables.{Table, IsTable, AreVariantsInOrder, block_name, ends_of_edge, provider_virtual, block_of, edge_lits_of, virtual_choices, packages_of, provider_packages, value_of}
-use Rattle.literal_table.specs.Spells.{SpellsNode, SpellsAt, SpellsEdge, Spells, virtuals_in, chosen_kinds, if_any_kind}
-use Rattle.literal_table.specs.declared.block.Block.{Block}
+use Rattle.literal_table.specs.Choices.{chosen}
+use Rattle.literal_table.specs.Tables.{block_name, ends_of_edge, provider_virtual, virtual_choices, provider_packages, value_of}
+use Rattle.literal_table.specs.Spells.{SpellsAt, SpellsEdge, Spells, virtuals_in}
 use Rattle.literal_table.specs.declared.block.EdgeLits.{EdgeLits}
 use Rattle.literal_table.proofs.Spelling.{named-so}
 use Rattle.table_plan.specs.Gathering.{EachOnce}
@@ -34,12 +32,12 @@ use Rattle.table_plan.specs.declared.plan.Possible.{Possible}
 use Rattle.table_plan.specs.declared.plan.PossibleEdge.{PossibleEdge}
 use Rattle.table_plan.specs.declared.plan.Plan.{Plan}
 use Rattle.table_plan.proofs.GatherLaws.{only_one}
-use Rattle.table_plan.specs.Numbers.{positive_lit, numbered, value_count, block_width, widths, block_from, blocks_from, numbered_run, edge_from, edge_lits_from, edge_width, edge_widths, provider_from, providers_from, table_from, variables_of}
+use Rattle.table_plan.specs.Numbers.{numbered, value_count, block_width, widths, block_from, blocks_from, edge_from, edge_lits_from, edge_width, edge_widths, providers_from, table_from, variables_of}
 use Rattle.table_plan.specs.Spellings.{node_bits, nodes_bits, kind_bits, edge_bits, edges_bits, providers_bits, graph_bits, with_bits, spelling, AgreeOutside}
 use Rattle.table_plan.proofs.ReadLaws.{Reads, reads_parts, reads_bits, bits_before, bits_after}
 use Rattle.table_plan.proofs.Choices.{numbered_reads, nothing_kept, smaller_set}
-use Rattle.table_plan.proofs.Blocks.{length-node_bits, block_ordered, block_named, node_read, numbered_keys}
-use Rattle.table_plan.proofs.PlanLaws.{ties}
+use Rattle.table_plan.proofs.Blocks.{length-node_bits, block_named, node_read, numbered_keys}
+use Rattle.table_plan.proofs.EdgeLaws.{ties}
 
 -- ---- lengths
 
@@ -185,10 +183,12 @@ module _ (v : ℕ → Bool) (graph : Content) where
   edges_read n (d ∷ ds) rising sets r parent child f =
       let parts = reads_parts v n (edge_bits d (edge_of graph d.parent d.child)) (edges_bits graph ds) r in
       let later = subst (λ m. Reads v (n + m) (edges_bits graph ds)) (length-edge_bits d (edge_of graph d.parent d.child)) parts.1 in
-      let first : IsInByteOrder d.virtuals = All-contains (λ (e : PossibleEdge). IsInByteOrder e.virtuals) (d ∷ ds) d sets (has_first d ds) in
+      let first : IsInByteOrder d.virtuals = All-contains (λ (e : PossibleEdge). IsInByteOrder e.virtuals) (d ∷ ds) d sets
+      (has_first d ds) in
       let rest = edges_read (n + edge_width d) ds (rises_rest pair_cmp (ends_of_possible d) (map ends_of_possible ds) rising)
       (all_from (λ (e : PossibleEdge). IsInByteOrder e.virtuals) ds
-      (λ e there. All-contains (λ (x : PossibleEdge). IsInByteOrder x.virtuals) (d ∷ ds) e sets (has_later d ds e there))) later parent child in
+      (λ e there. All-contains (λ (x : PossibleEdge). IsInByteOrder x.virtuals) (d ∷ ds) e sets (has_later d ds e there))) later
+      parent child in
       ⊎_elim
       (λ hit.
       let same : ends_of_possible d ≡ (parent, child) = pair_exact (ends_of_possible d) (parent, child)
@@ -294,46 +294,3 @@ others_stay n plan graph v k = (
   bits_before n (graph_bits plan graph) v k,
   λ le. bits_after n (graph_bits plan graph) v k (omega (arith, le, length-graph_bits plan graph)),
 )
-
--- ---- the table is in order
-
-made_keys : {X Y K : Type 0} (make : ℕ → X → Y) (width : X → ℕ) (key : Y → K) (from : X → K) → ((m : ℕ) (x : X) → key (make m x) ≡ from x)
-    → (n : ℕ) (xs : List X) → map key (numbered_run make width n xs) ≡ map from xs
-made_keys make width key from same n [] = refl
-made_keys make width key from same n (x ∷ xs) =
-    let first = same n x in
-    let rest = made_keys make width key from same (n + width x) xs in
-    λ i. first i ∷ rest i
-
-blocks_ordered : (n : ℕ) (ps : List Possible) → ((p : Possible) → Contains ps p → IsPossible p) → (b : Block)
-    → Contains (blocks_from n ps) b
-    → AreVariantsInOrder b
-blocks_ordered n [] is b there = absurd (omega (arith, there.1))
-blocks_ordered n (p ∷ ps) is b there = ⊎_elim
-    (λ same. subst AreVariantsInOrder same (block_ordered n p (is p (has_first p ps))))
-    (λ later. blocks_ordered (n + block_width p) ps (λ q in_ps. is q (has_later p ps q in_ps)) b later)
-    (first_or_later (block_from n p) (blocks_from (n + block_width p) ps) b there)
-
-names_ordered : (n : ℕ) (es : List PossibleEdge) → ((e : PossibleEdge) → Contains es e → IsInByteOrder e.virtuals) → (l : EdgeLits)
-    → Contains (edge_lits_from n es) l → IsInOrder byte_cmp value_of l.virtuals
-names_ordered n [] is l there = absurd (omega (arith, there.1))
-names_ordered n (e ∷ es) is l there = ⊎_elim
-    (λ same. subst (λ (x : EdgeLits). IsInOrder byte_cmp value_of x.virtuals) same
-    (subst IsInByteOrder (sym (numbered_keys (n + 3) e.virtuals)) (is e (has_first e es))))
-    (λ later. names_ordered (n + edge_width e) es (λ d in_es. is d (has_later e es d in_es)) l later)
-    (first_or_later (edge_from n e) (edge_lits_from (n + edge_width e) es) l there)
-
--- the table of a plan is in order
-pub table_right : (n : ℕ) (plan : Plan) → IsPlan plan → IsTable (table_from n plan)
-unfolding table_from
-table_right n plan is = record {
-  blocks = subst IsInByteOrder (sym (made_keys block_from block_width block_name (λ p. p.name) block_named n plan.nodes)) is.nodes;
-  edges = subst (IsStrictlySortedBy pair_cmp)
-      (sym (made_keys edge_from edge_width ends_of_edge ends_of_possible (λ m e. refl) _ plan.edges)) is.edges;
-  providers = subst IsInByteOrder
-      (sym (made_keys provider_from (λ w. length w.1) provider_virtual (λ w. w.0) (λ m w. refl) _ plan.providers)) is.providers;
-  variants = all_from AreVariantsInOrder (blocks_from n plan.nodes)
-      (blocks_ordered n plan.nodes (λ p there. All-contains IsPossible plan.nodes p is.possible there));
-  virtuals = all_from (λ (l : EdgeLits). IsInOrder byte_cmp value_of l.virtuals) (edge_lits_from _ plan.edges)
-      (names_ordered _ plan.edges (λ e there. All-contains (λ (x : PossibleEdge). IsInByteOrder x.virtuals) plan.edges e is.virtuals there));
-}

@@ -1,5 +1,5 @@
 //! The table of a plan.
-ghost use Rattle.std.specs.Prelude.{◌≡◌, ◌+◌, [], ◌∷◌, length, IfOk, OnOk};
+ghost use Rattle.std.specs.Prelude.{◌≡◌, ◌+◌, ◌^◌, [], ◌∷◌, length, IfOk, IfErr, OnOk};
 ghost use Rattle.table_plan.specs.Offers.{IsPlan};
 ghost use Rattle.table_plan.specs.Numbers.{positive_lit, numbered, attribute, width_of, variants_from, value_count, block_width, widths, block_from, blocks_from, edge_from, edge_lits_from, edge_width, edge_widths, provider_from, providers_from, table_from, variables_of};
 
@@ -29,6 +29,7 @@ pub fn table_from(alloc: Global, next: &mut u64, plan: &Plan) -> Result<LiteralT
 fn new_lit(next: &mut u64) -> Result<Lit, AllocError>
     ensures lit { IfOk result (λ lit. lit ≡ positive_lit next.old) }
     ensures next { OnOk result (next.new ≡ next.old + 1) }
+    ensures cause { IfErr result (λ _. next.old + 1 ≡ 2 ^ 64) }
 {
     let number = *next;
     if number == u64::MAX {

@@ -28,11 +28,11 @@ use Rattle.literal_table.specs.declared.block.Block.{Block}
 use Rattle.literal_table.proofs.Spelling.{found-named}
 use Rattle.table_plan.specs.Gathering.{gathered, listed}
 use Rattle.table_plan.specs.Kept.{external_nodes, kept_nodes}
-use Rattle.table_plan.specs.Plans.{same_origin, can_build, offered, variant_names, variant_values, possible_at, plan_of}
+use Rattle.table_plan.specs.Plans.{can_build, offered, variant_names, variant_values, possible_at, plan_of}
+use Rattle.problem.specs.Nodes.{same_origin, builds}
 use Rattle.table_plan.proofs.GatherLaws.{from_gathered}
-use Rattle.table_plan.proofs.NodeLaws.{origins_exact}
+use Rattle.table_plan.proofs.ExactTests.{origins_exact}
 use Rattle.table_plan.specs.Numbers.{positive_lit, numbered, attribute, variants_from, block_width, block_from, blocks_from, table_from}
-use Rattle.graph_formulas.specs.Terms.{builds}
 use Rattle.graph_formulas.specs.Laws.{variants_in, variants_of}
 use Rattle.graph_formulas.proofs.AllVariants.{among-In}
 use Rattle.valid_models.specs.Tables.{table_for}
@@ -98,7 +98,8 @@ module _ (problem : Problem) (name : Text) where
   unfolding variant_names
   named is = list_all-from (is_one_text (variant_names problem name)) (map (λ row. row.name) (variants_at problem name))
       (λ x there. among-In (variant_names problem name) x (contains-In (variant_names problem name) x
-      (in_texts [] _ x (inl (Contains-append_left _ _ x (subst (λ b. Contains (listed b (map (λ row. row.name) (variants_at problem name))) x) (sym is)
+      (in_texts [] _ x
+      (inl (Contains-append_left _ _ x (subst (λ b. Contains (listed b (map (λ row. row.name) (variants_at problem name))) x) (sym is)
       (In-contains (map (λ row. row.name) (variants_at problem name)) x there)))))))
 
   block-has : (k : ℕ) → list_any builds (choices.choice_values (block_from k (possible_at problem name)).origins) ≡ true
@@ -109,7 +110,8 @@ module _ (problem : Problem) (name : Text) where
       let can = offers-buildable (ap (list_any builds)
       (sym (attribute-offers (positive_lit k) (k + 1) (offered same_origin problem name (Built ∷ []) (λ node. node.origin)))) ∙ h) in
       ap (λ vs. list_all (is_one_text vs) (map (λ row. row.name) (variants_at problem name)))
-      (variant-keys _ (map (λ variant. (variant, variant_values problem name variant)) (variant_names problem name)) ∙ pair-keys (variant_values problem name) (variant_names problem name))
+      (variant-keys _ (map (λ variant. (variant, variant_values problem name variant)) (variant_names problem name))
+      ∙ pair-keys (variant_values problem name) (variant_names problem name))
       ∙ named can
 
 -- ---- what is found

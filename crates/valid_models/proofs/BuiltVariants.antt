@@ -11,7 +11,7 @@ use Rattle.graph_core.specs.declared.node.Node.{Node}
 use Rattle.graph_core.specs.declared.node.Origin.{Origin}
 use Rattle.condition_rules.specs.Words.{is_one_text, implies, if_written, is_some_and}
 use Rattle.recipe_data.specs.OfSpecGrammar.Condition.{Condition}
-use Rattle.problem.specs.Nodes.{is_built}
+use Rattle.problem.specs.Nodes.{is_built, builds}
 use Rattle.problem.specs.Problems.{Problem, world_of, variants_at}
 use Rattle.graph_rules.specs.Built.{keeps_variant}
 use Rattle.graph_rules.specs.Valid.{keeps}
@@ -27,13 +27,13 @@ use Rattle.graph_formulas.specs.Words.{names_for}
 use Rattle.graph_formulas.proofs.WordsSaid.{word-said}
 use Rattle.graph_formulas.proofs.Rules.{each-kept}
 use Rattle.graph_formulas.proofs.Kept.{by_node}
-use Rattle.graph_formulas.specs.Terms.{Term, known, met, is_true, term_said, builds, where_built}
+use Rattle.graph_formulas.specs.Terms.{Term, known, met, is_true, term_said, where_built}
 use Rattle.graph_formulas.specs.Variants.{variant_rule, variants_rule, keeps_one_variant}
 use Rattle.graph_formulas.specs.Laws.{SpellsProblem, rule_says, variants_in, variants_of}
 use Rattle.graph_formulas.proofs.Names.{all-same, each-node-said}
 use Rattle.graph_formulas.proofs.VariantRule.{variant-kept}
 use Rattle.graph_formulas.proofs.AllVariants.{spelled-variants}
-use Rattle.graph_formulas.proofs.RulesSaid.{all-among}
+use Rattle.graph_formulas.proofs.SpelledParts.{all-among}
 use Rattle.valid_models.specs.Joined.{HasBuiltVariants}
 
 -- what is chosen is offered
@@ -49,7 +49,8 @@ any-offered v p (c ∷ cs) h = elim (cases_Bool (lit_true v c.1)) [
     any-offered-cases true b c f h = refl
     any-offered-cases false b c f h = f h
 
-module _ (problem : Problem) (v : ℕ → Bool) (path : Text → Text → Statement) (condition : Text → Condition → Statement) (table : Table) (graph : Content)
+module _ (problem : Problem) (v : ℕ → Bool) (path : Text → Text → Statement) (condition : Text → Condition → Statement) (table : Table)
+    (graph : Content)
     (s : SpellsProblem problem v path condition table graph) (has : HasBuiltVariants problem table) where
   term-said : (t : Term) → eval v (term_said path condition table t) ≡ is_true (world_of problem) graph t
   term-said (known rule) = rule-said v (word_said path table) (is_in graph) (word-said v path table graph s.whole) rule
@@ -64,8 +65,10 @@ module _ (problem : Problem) (v : ℕ → Bool) (path : Text → Text → Statem
   offers b node spells built = any-offered v builds b.origins
       (subst (λ xs. list_any builds xs ≡ true) (sym spells.origin) (or_left (builds node.origin) false built))
 
-  at-block : (name : Text) (node : Node) → node_of graph name ≡ Some node → is_built node ≡ true → (c : Option Block) → block_of table name ≡ c
-      → SpellsAt v c (node_of graph name) → keeps_variant problem graph node ≡ list_all (keeps_one_variant problem graph node) (variants_of table name)
+  at-block : (name : Text) (node : Node) → node_of graph name ≡ Some node → is_built node ≡ true → (c : Option Block)
+      → block_of table name ≡ c
+      → SpellsAt v c (node_of graph name) → keeps_variant problem graph node ≡ list_all (keeps_one_variant problem graph node)
+      (variants_of table name)
   at-block name node here built None is spells = absurd (let wrong : Some node ≡ None = sym here ∙ spells in cc)
   at-block name node here built (Some b) is spells =
       let spelled : SpellsNode v b (Some node) = subst (SpellsNode v b) here spells in
@@ -79,19 +82,22 @@ module _ (problem : Problem) (v : ℕ → Bool) (path : Text → Text → Statem
   at-node : (name : Text) (node : Node) → node_of graph name ≡ Some node → is_built node ≡ true
       → holds_here (variants_rule problem (variants_of table name) name) ≡ keeps_variant problem graph node
   at-node name node here built =
-      each-kept (is_true (world_of problem) graph) (variant_rule problem name) (keeps_one_variant problem graph node) (λ x. variant-kept problem graph name node here x) (variants_of table name)
+      each-kept (is_true (world_of problem) graph) (variant_rule problem name) (keeps_one_variant problem graph node)
+      (λ x. variant-kept problem graph name node here x) (variants_of table name)
       ∙ sym (at-block name node here built (block_of table name) refl (s.whole.facts.nodes name))
 
   at-name : (name : Text) → rule_says v path condition table (where_built name (variants_rule problem (variants_of table name) name))
       ≡ if_written (node_of graph name) (λ node. implies (is_built node) (keeps_variant problem graph node))
   at-name name =
-      rule-said v (term_said path condition table) (is_true (world_of problem) graph) term-said (where_built name (variants_rule problem (variants_of table name) name))
+      rule-said v (term_said path condition table) (is_true (world_of problem) graph) term-said
+      (where_built name (variants_rule problem (variants_of table name) name))
       ∙ by_node graph name (λ o. (not (is_some_and o is_built) || holds_here (variants_rule problem (variants_of table name) name))
       ≡ if_written o (λ node. implies (is_built node) (keeps_variant problem graph node)))
       (λ node here. at-name-cases node (is_built node) (at-node name node here))
       (λ absent. refl)
     where
-      at-name-cases : (node : Node) (b : Bool) → (b ≡ true → holds_here (variants_rule problem (variants_of table name) name) ≡ keeps_variant problem graph node)
+      at-name-cases : (node : Node) (b : Bool) → (b ≡ true
+          → holds_here (variants_rule problem (variants_of table name) name) ≡ keeps_variant problem graph node)
           → (not b || holds_here (variants_rule problem (variants_of table name) name)) ≡ implies b (keeps_variant problem graph node)
       at-name-cases node true h = h refl
       at-name-cases node false h = refl
@@ -104,4 +110,5 @@ module _ (problem : Problem) (v : ℕ → Bool) (path : Text → Text → Statem
   all-built-variant =
       all-same _ (λ name. if_written (node_of graph name) (λ node. implies (is_built node) (keeps_variant problem graph node))) at-name
       (table_names table)
-      ∙ sym (each-node-said v table graph s.whole.facts s.is_table s.is_graph (λ node. implies (is_built node) (keeps_variant problem graph node)))
+      ∙ sym (each-node-said v table graph s.whole.facts s.is_table s.is_graph
+      (λ node. implies (is_built node) (keeps_variant problem graph node)))

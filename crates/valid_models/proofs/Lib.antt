@@ -6,6 +6,9 @@ pub mod Plain
 pub mod TargetLaws
 pub mod Found
 pub mod BuiltVariants
+pub mod Lists
+pub mod Told
+pub mod FormulaRanges
 pub mod Ranges
 pub mod Right
 pub mod OfGraphFormulas

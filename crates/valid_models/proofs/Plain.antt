@@ -21,7 +21,8 @@ use Rattle.graph_formulas.specs.Facts.{GraphWord, provides_as, node_has, has_ori
 use Rattle.graph_formulas.specs.Lists.{◌and◌, settled_test, where_written, one_keeps, each_keeps}
 use Rattle.graph_formulas.specs.Built.{buildable_rule, version_rule, entry_rule, compiler_rule, machine_rule, provider_rule}
 use Rattle.graph_formulas.specs.Edges.{no_kinds}
-use Rattle.graph_formulas.specs.Kept.{joined_rule, same_origin, installs, same_rule, kinds_rule, is_child_name, child_rule, recorded_rule, origin_rule, kept_rule}
+use Rattle.graph_formulas.specs.Kept.{joined_rule, installs, same_rule, kinds_rule, is_child_name, child_rule, recorded_rule, origin_rule, kept_rule}
+use Rattle.problem.specs.Nodes.{same_origin}
 use Rattle.graph_encoding.specs.Formulas.{PathFormulas}
 use Rattle.valid_models.proofs.Words.{AllWords, given-all, written-all, named-all, each-all, some-all}
 use Rattle.valid_models.proofs.Mentions.{Alike, provides-alike}
@@ -64,7 +65,11 @@ module _ (v : ℕ → Bool) (t : Table) (path other : PathFormulas) (told : Text
   module _ (children : List Text) where
     child-alike : (name : Text) (d : Dependency) → AllWords W (child_rule problem children name d)
     child-alike name d = named-all W (λ (child : Record). joined_rule name child.name d)
-        (λ child. ((refl, (kinds-alike name child.name d.kinds, refl)), each-all W (λ virtual. fact (provides_as virtual child.name)) (λ virtual. refl) d.virtuals))
+        (λ child. (
+          (refl, (kinds-alike name child.name d.kinds, refl)),
+          each-all W (λ virtual. fact (provides_as virtual child.name))
+              (λ virtual. refl) d.virtuals,
+        ))
         (record_at problem d.hash)
 
     origin-alike : (name : Text) (origin : Origin) → AllWords W (origin_rule problem children name origin)
@@ -79,12 +84,18 @@ module _ (v : ℕ → Bool) (t : Table) (path other : PathFormulas) (told : Text
         (λ entry. same_rule name (installed_node entry) and each_keeps (child_rule problem children name) (kept_dependencies entry) and
         each_keeps (recorded_rule problem children name entry) children)
         (λ entry. (
-          (same-alike name (installed_node entry), each-all W (child_rule problem children name) (child-alike name) (kept_dependencies entry)),
-          each-all W (recorded_rule problem children name entry) (λ child. (refl, given-all W (is_child_name problem entry child))) children,
+          (
+            same-alike name (installed_node entry),
+            each-all W (child_rule problem children name) (child-alike name)
+                (kept_dependencies entry),
+          ),
+          each-all W (recorded_rule problem children name entry) (λ child. (refl, given-all W (is_child_name problem entry child)))
+              children,
         ))
         (record_at problem hash)
 
     -- the words of the rule of kept nodes
     pub kept-alike : (origins : List Origin) (name : Text) → AllWords W (kept_rule problem children origins name)
-    kept-alike origins name = each-all W (λ origin. if_so (fact (node_has name (has_origin (same_origin origin)))) (origin_rule problem children name origin))
+    kept-alike origins name =
+        each-all W (λ origin. if_so (fact (node_has name (has_origin (same_origin origin)))) (origin_rule problem children name origin))
         (λ origin. (refl, origin-alike name origin)) origins

@@ -99,8 +99,10 @@ fact-below m b h (facts.has_target test) = choice-below m test b.targets h.targe
 fact-below m b h (facts.has_prefix test) = choice-below m test b.prefixes h.prefixes
 fact-below m b h (facts.has_variant variant) =
     choice-below m (λ value. true) (variant_choices b variant) (found-below m b.variants variant h.values)
-fact-below m b h (facts.has_value variant test) = choice-below m test (variant_choices b variant) (found-below m b.variants variant h.values)
-fact-below m b h (facts.has_single variant) = one_among-below m (choice_lits (variant_choices b variant)) (found-below m b.variants variant h.values)
+fact-below m b h (facts.has_value variant test) =
+    choice-below m test (variant_choices b variant) (found-below m b.variants variant h.values)
+fact-below m b h (facts.has_single variant) =
+    one_among-below m (choice_lits (variant_choices b variant)) (found-below m b.variants variant h.values)
 fact-below m b h (facts.has_variants variants) =
     all_of-below m (atom b.present ∷ variant_parts b.variants variants) (h.present, variants-below m b.variants variants h.values)
 

@@ -1,37 +1,32 @@
 -- The formulas of a problem are right, where paths are told to its targets.
-use Rattle.std.proofs.Common.{◌≡◌, refl, sym, ap, subst, ◌∙◌, Bool, true, false, ◌&&◌, ℕ, zero, suc, ◌≤◌, List, [], ◌∷◌, ◌++◌, map, Option, Some, None}
-use Rattle.std.specs.Prelude.{if◌then◌else◌, flat_map, slice_get}
+use Rattle.std.proofs.Common.{◌≡◌, refl, sym, ap, subst, ◌∙◌, Bool, true, false, ℕ, zero, suc, List, [], ◌∷◌, map, Option, Some, None}
+use Rattle.std.specs.Prelude.{if◌then◌else◌, slice_get}
 use Rattle.std.specs.List.{list_all}
-use Rattle.std.proofs.lemmas.List.Folds.{list_all-append, list_all-map}
-use Rattle.std.proofs.lemmas.Bool.{and_parts, and_from}
+use Rattle.std.proofs.lemmas.Bool.{and_parts}
 use Rattle.spec_grammar.specs.declared.part.Spec.{Spec}
-use Rattle.clause_formulas.specs.Statements.{Statement, never, no, eval, all_statements, any_statement, all_eval, implication_of, SaidBelow}
+use Rattle.clause_formulas.specs.Statements.{Statement, never, no, eval, all_statements, implication_of}
 use Rattle.clause_formulas.specs.Drafts.{part_at}
 use Rattle.clause_formulas.specs.Rules.{Proposition}
-use Rattle.clause_formulas.proofs.RuleLaws.{rule-below}
-use Rattle.clause_formulas.proofs.Words.{eval-all_of, all_of-below}
-use Rattle.clause_formulas.proofs.DraftLaws.{SaidBelow-le}
+use Rattle.clause_formulas.proofs.Words.{all_of-below}
 use Rattle.graph_core.specs.Graphs.{Text, Content}
 use Rattle.graph_core.specs.Paths.{reaches_in}
 use Rattle.condition_rules.specs.Holds.{all_hold}
 use Rattle.recipe_data.specs.OfSpecGrammar.Condition.{Condition}
-use Rattle.problem.specs.Nodes.{IsWellFormed}
+use Rattle.problem.specs.Nodes.{IsWellFormed, builds}
 use Rattle.problem.specs.Problems.{Problem, world_of}
 use Rattle.problem.specs.declared.demand.Demand.{Demand}
 use Rattle.problem.specs.declared.demand.Demand.TheVariants as demand
-use Rattle.graph_rules.specs.Valid.{keeps, keeps_all, keeps_demand}
+use Rattle.graph_rules.specs.Valid.{keeps_all, keeps_demand}
 use Rattle.graph_rules.specs.declared.rule.Rule.TheVariants as rules
-use Rattle.graph_rules.proofs.Lists.{In, In-map, contains-In, list_all-each}
-use Rattle.literal_table.specs.Tables as tables
 use Rattle.literal_table.specs.Tables.{Table, IsTable, block_of, table_names, children_of}
 use Rattle.literal_table.specs.Spells.{Spells}
 use Rattle.literal_table.specs.declared.block.Block.{Block}
 use Rattle.graph_formulas.specs.Facts.{GraphWord, word_said, fact_said, said_in, has_origin, is_there}
 use Rattle.graph_formulas.specs.Lists.{settled_test, where_written}
-use Rattle.graph_formulas.specs.Words.{SpellsPaths, names_for, rule_said}
+use Rattle.graph_formulas.specs.Words.{SpellsPaths, names_for}
 use Rattle.graph_formulas.specs.Parts.{condition_rule, holds_rule}
 use Rattle.graph_formulas.proofs.Parts.{condition-said}
-use Rattle.graph_formulas.specs.Terms.{Term, known, met, term_said, builds, known_rule, where_built, where_there}
+use Rattle.graph_formulas.specs.Terms.{Term, known, met, term_said, known_rule, where_built, where_there}
 use Rattle.graph_formulas.specs.Directives.{root_rule}
 use Rattle.graph_formulas.specs.Built.{buildable_rule, version_rule, compiler_rule, machine_rule, provider_rule}
 use Rattle.graph_formulas.specs.Edges.{extra_edges_rule, used_rule, of_provider}
@@ -40,21 +35,25 @@ use Rattle.graph_formulas.specs.Variants.{variants_rule}
 use Rattle.graph_formulas.specs.Kept.{kept_rule, origins_of}
 use Rattle.graph_formulas.specs.Demands.{demand_rule, directive_rule, required_rule}
 use Rattle.graph_formulas.specs.Laws.{SpellsProblem, term_formula, rule_says, has_name, virtuals_of, virtuals_on, may_use, variants_of}
-use Rattle.graph_formulas.proofs.RulesSaid.{demand-said, all-buildable, all-version, all-compiler, all-machine, all-extra_edge, all-kept, all-provider, all-used, all-together}
-use Rattle.graph_formulas.proofs.Edges.{all-true}
+use Rattle.graph_formulas.proofs.DemandsSaid.{demand-said}
+use Rattle.graph_formulas.proofs.RulesSaid.{all-buildable, all-version, all-compiler, all-machine, all-extra_edge, all-kept, all-provider, all-used, all-together}
+use Rattle.graph_formulas.proofs.ListTests.{all-true}
 use Rattle.literal_table.specs.Ranges.{IsTableBelow}
-use Rattle.graph_encoding.specs.Formulas.{PathFormulas, PathsTold, ConditionsTold, PathsBelow, MetBelow, AreRightFormulas, other_rules, part_of}
+use Rattle.graph_encoding.specs.Formulas.{PathFormulas, PathsTold, ConditionsTold, AreRightFormulas, other_rules}
 use Rattle.graph_encoding.specs.Encodings.{told_in}
-use Rattle.valid_models.specs.Targets.{conditions_at, conditions_of, targets_at, asked_targets, targets_of, condition_names, spec_names}
+use Rattle.valid_models.specs.Targets.{conditions_of, asked_targets, targets_of, spec_names}
 use Rattle.valid_models.specs.Joined.{Places, IsPlaced, placed_or, condition_said, condition_by, rule_rows, row_said, formulas_for, condition_holds, holds_at, HasBuiltVariants, WordsBelow}
-use Rattle.valid_models.proofs.Words.{AllWords, said-alike, each-if, named-all}
-use Rattle.valid_models.proofs.Mentions.{Alike, all-flat, condition-alike, holds-alike}
+use Rattle.valid_models.proofs.Words.{AllWords, said-alike, named-all}
+use Rattle.valid_models.proofs.Mentions.{Alike, condition-alike, holds-alike}
 use Rattle.valid_models.proofs.Terms as terms
 use Rattle.valid_models.proofs.Plain as plain
 use Rattle.valid_models.proofs.TargetLaws.{all-told, all-asked}
 use Rattle.valid_models.proofs.BuiltVariants.{all-built-variant}
 use Rattle.valid_models.proofs.Ranges.{words-below}
 use Rattle.valid_models.proofs.Found.{found-passes}
+use Rattle.valid_models.proofs.Lists.{all-said, all-alike, listed-below}
+use Rattle.valid_models.proofs.Told.{is_told_name, is_told_when, is_told_pair, told-names, told-roots, told-conditions}
+use Rattle.valid_models.proofs.FormulaRanges.{when-below, formula-below, row-below}
 
 abbrev constant : Bool → Statement
 constant b = if b then no never else never
@@ -63,68 +62,7 @@ constant-is : (v : ℕ → Bool) (b : Bool) → eval v (constant b) ≡ b
 constant-is v true = refl
 constant-is v false = refl
 
--- a formula of a list says each
-all-said : {X : Type 0} (v : ℕ → Bool) (f : X → Statement) (xs : List X)
-    → eval v (all_statements (map f xs)) ≡ list_all (λ x. eval v (f x)) xs
-all-said v f xs = eval-all_of v (map f xs) ∙ all-said-cases xs
-  where
-    all-said-cases : (xs : List _) → all_eval v (map f xs) ≡ list_all (λ x. eval v (f x)) xs
-    all-said-cases [] = refl
-    all-said-cases (x ∷ xs) = rw (all-said-cases xs) refl
-
--- what two tests say of a list
-all-alike : {X : Type 0} (p q test : X → Bool) → ((x : X) → test x ≡ true → p x ≡ q x) → (xs : List X) → list_all test xs ≡ true → list_all p xs ≡ list_all q xs
-all-alike p q test same [] e = refl
-all-alike p q test same (x ∷ xs) e = let h = and_parts (test x) (list_all test xs) e in rw (same x h.0, all-alike p q test same xs h.1) refl
-
-all-from : {X : Type 0} (p q : X → Bool) → ((x : X) → p x ≡ true → q x ≡ true) → (xs : List X) → list_all p xs ≡ true → list_all q xs ≡ true
-all-from p q h [] e = refl
-all-from p q h (x ∷ xs) e = let a = and_parts (p x) (list_all p xs) e in and_from (q x) _ (h x a.0) (all-from p q h xs a.1)
-
-listed-below : {X : Type 0} (m : ℕ) (f : X → Statement) → ((x : X) → SaidBelow m (f x)) → (xs : List X)
-    → SaidBelow m (any_statement (map f xs))
-listed-below m f h [] = tt
-listed-below m f h (x ∷ xs) = (h x, listed-below m f h xs)
-
--- ---- what is told
-
 module _ (problem : Problem) (t : Table) (told : Text → Bool) (all : list_all told (asked_targets problem t) ≡ true) where
-  parts : (list_all told (flat_map (targets_at problem t) (table_names t)) ≡ true)
-      × (list_all told (flat_map (spec_names (world_of problem) (names_for t)) problem.roots) ≡ true)
-  parts = and_parts _ _
-      (sym (list_all-append told (flat_map (targets_at problem t) (table_names t))
-      (flat_map (spec_names (world_of problem) (names_for t)) problem.roots)) ∙ all)
-
-  abbrev is_told_name : Text → Bool
-  is_told_name name = list_all told (targets_at problem t name)
-
-  abbrev is_told_when : Condition → Bool
-  is_told_when when = list_all told (condition_names (world_of problem) (names_for t) when)
-
-  told-names : list_all is_told_name (table_names t) ≡ true
-  told-names = sym (all-flat told (targets_at problem t) (table_names t)) ∙ parts.0
-
-  told-roots : list_all (λ spec. list_all told (spec_names (world_of problem) (names_for t) spec)) problem.roots ≡ true
-  told-roots = sym (all-flat told (spec_names (world_of problem) (names_for t)) problem.roots) ∙ parts.1
-
-  abbrev is_told_pair : Text × Condition → Bool
-  is_told_pair c = is_told_when c.1
-
-  abbrev pair_with : Text → Condition → Text × Condition
-  pair_with name when = (name, when)
-
-  told-at : (name : Text) → is_told_name name ≡ true → list_all is_told_pair (map (pair_with name) (conditions_at problem name)) ≡ true
-  told-at name e =
-      list_all-map is_told_pair (pair_with name) (conditions_at problem name)
-      ∙ sym (all-flat told (condition_names (world_of problem) (names_for t)) (conditions_at problem name))
-      ∙ (and_parts _ _ (sym (list_all-append told (flat_map (condition_names (world_of problem) (names_for t)) (conditions_at problem name)) _) ∙ e)).0
-
-  told-conditions : list_all is_told_pair (conditions_of problem t) ≡ true
-  told-conditions =
-      all-flat is_told_pair (λ name. map (pair_with name) (conditions_at problem name)) (table_names t)
-      ∙ all-from is_told_name (λ name. list_all is_told_pair (map (pair_with name) (conditions_at problem name))) told-at
-      (table_names t) told-names
-
   -- ---- one graph
 
   module _ (table : IsTable t) (v : ℕ → Bool) (g : Content) (path : PathFormulas) (spells : Spells v t g) (formed : IsWellFormed g) (paths : PathsTold told path v g) where
@@ -145,18 +83,18 @@ module _ (problem : Problem) (t : Table) (told : Text → Bool) (all : list_all 
     whole : SpellsPaths v exact t g
     whole = record { facts = spells; paths = exact-says }
 
-    when-alike : (name : Text) (when : Condition) → is_told_when when ≡ true → eval v (condition_said problem t path name when) ≡ eval v (condition_said problem t exact name when)
+    when-alike : (name : Text) (when : Condition) → is_told_when problem t told when ≡ true → eval v (condition_said problem t path name when) ≡ eval v (condition_said problem t exact name when)
     when-alike name when e = said-alike v (word_said path t) (word_said exact t) (condition_rule (world_of problem) (names_for t) name when)
         (condition-alike v t path exact told same (world_of problem) (names_for t) name when e)
 
     when-says : (name : Text) (when : Condition) → eval v (condition_said problem t exact name when) ≡ all_hold (world_of problem) when g name
     when-says name when = condition-said (world_of problem) v exact t g whole name when
 
-    conditions-say : (cs : List (Text × Condition)) → list_all is_told_pair cs ≡ true → (k : ℕ)
+    conditions-say : (cs : List (Text × Condition)) → list_all (is_told_pair problem t told) cs ≡ true → (k : ℕ)
         → eval v (part_at (map (λ c. condition_said problem t path c.0 c.1) cs) k) ≡ condition_holds problem (slice_get cs k) g
     conditions-say [] e k = refl
-    conditions-say (c ∷ cs) e zero = when-alike c.0 c.1 (and_parts (is_told_when c.1) _ e).0 ∙ when-says c.0 c.1
-    conditions-say (c ∷ cs) e (suc k) = conditions-say cs (and_parts (is_told_when c.1) _ e).1 k
+    conditions-say (c ∷ cs) e zero = when-alike c.0 c.1 (and_parts (is_told_when problem t told c.1) _ e).0 ∙ when-says c.0 c.1
+    conditions-say (c ∷ cs) e (suc k) = conditions-say cs (and_parts (is_told_when problem t told c.1) _ e).1 k
 
     -- ---- over values of conditions
     module _ (place : Places) (placed : IsPlaced (conditions_of problem t) place) (met_by : ℕ → Statement) (conds : ConditionsTold (holds_at problem (conditions_of problem t)) met_by v g) where
@@ -166,7 +104,7 @@ module _ (problem : Problem) (t : Table) (told : Text → Bool) (all : list_all 
       abbrev cond_exact : Text → Condition → Statement
       cond_exact = condition_by problem t place exact met_by
 
-      same-met : (name : Text) (when : Condition) → is_told_when when ≡ true → eval v (cond_path name when) ≡ eval v (cond_exact name when)
+      same-met : (name : Text) (when : Condition) → is_told_when problem t told when ≡ true → eval v (cond_path name when) ≡ eval v (cond_exact name when)
       same-met name when e = same-met-cases (place name when)
         where
           same-met-cases : (o : Option ℕ) → eval v (placed_or met_by (condition_said problem t path name when) o) ≡ eval v (placed_or met_by (condition_said problem t exact name when) o)
@@ -224,12 +162,12 @@ module _ (problem : Problem) (t : Table) (told : Text → Bool) (all : list_all 
                 (λ name. (refl, plainly (version_rule problem name) (plain.version-alike v t path exact told same problem name)))
                 (table_names t)
                 ∙ all-version problem v exact cond_exact t g spelled,
-            row-says (λ name. where_built name (variants_rule problem (variants_of t name) name)) is_told_name
+            row-says (λ name. where_built name (variants_rule problem (variants_of t name) name)) (is_told_name problem t told)
                 (λ name e. (
                   refl,
                   terms.variants-alike problem v t path exact told same cond_path cond_exact same-met name e
                       (variants_of t name),
-                )) (table_names t) told-names
+                )) (table_names t) (told-names problem t told all)
                 ∙ all-built-variant problem v exact cond_exact t g spelled has,
             row-free (λ name. where_built name (known_rule (compiler_rule problem name)))
                 (λ name. (refl, plainly (compiler_rule problem name) (plain.compiler-alike v t path exact told same problem name)))
@@ -239,12 +177,12 @@ module _ (problem : Problem) (t : Table) (told : Text → Bool) (all : list_all 
                 (λ name. (refl, plainly (machine_rule problem name) (plain.machine-alike v t path exact told same problem name)))
                 (table_names t)
                 ∙ all-machine problem v exact cond_exact t g spelled,
-            row-says (λ name. where_built name (extra_edges_rule problem (names_for t) (virtuals_on t name) (children_of t name) name)) is_told_name
+            row-says (λ name. where_built name (extra_edges_rule problem (names_for t) (virtuals_on t name) (children_of t name) name)) (is_told_name problem t told)
                 (λ name e. (
                   refl,
                   terms.extra-edges-alike problem v t path exact told same cond_path cond_exact same-met name e
                       (virtuals_on t name) (children_of t name),
-                )) (table_names t) told-names
+                )) (table_names t) (told-names problem t told all)
                 ∙ all-extra_edge problem v exact cond_exact t g spelled,
             row-free (λ name. where_there name (known_rule (kept_rule problem (children_of t name) (origins_of t name) name)))
                 (λ name. (
@@ -281,7 +219,7 @@ module _ (problem : Problem) (t : Table) (told : Text → Bool) (all : list_all 
       roots-alike (spec ∷ specs) e zero = root-alike spec (and_parts _ _ e).0
       roots-alike (spec ∷ specs) e (suc k) = roots-alike specs (and_parts _ _ e).1 k
 
-      directive-alike : (name : Text) (rule : Proposition Term) → (is_told_name name ≡ true → AllWords T rule)
+      directive-alike : (name : Text) (rule : Proposition Term) → (is_told_name problem t told name ≡ true → AllWords T rule)
           → says_path (where_built name rule) ≡ says_exact (where_built name rule)
       directive-alike name rule h = directive-alike-cases (block_of t name) refl
         where
@@ -291,7 +229,7 @@ module _ (problem : Problem) (t : Table) (told : Text → Bool) (all : list_all 
               (term_formula path cond_path t rule))
               ≡ eval v (implication_of (said_in (λ b. fact_said b (has_origin builds)) o) (term_formula exact cond_exact t rule)))
               (sym at) refl
-          directive-alike-cases (Some b) at = alike (where_built name rule) (refl, h (found-passes is_told_name t.blocks name b told-names at))
+          directive-alike-cases (Some b) at = alike (where_built name rule) (refl, h (found-passes (is_told_name problem t told) t.blocks name b (told-names problem t told all) at))
 
       -- of a name that the table does not have both say nothing
       named-alike : (name : Text) (number : ℕ) (b : Bool)
@@ -301,14 +239,14 @@ module _ (problem : Problem) (t : Table) (told : Text → Bool) (all : list_all 
           (λ e. terms.directive-alike problem v t path exact told same cond_path cond_exact same-met name e number)
       named-alike name number false = refl
 
-      there-alike : (name : Text) (rule : Proposition Term) → (is_told_name name ≡ true → AllWords T rule) → says_path (where_there name rule) ≡ says_exact (where_there name rule)
+      there-alike : (name : Text) (rule : Proposition Term) → (is_told_name problem t told name ≡ true → AllWords T rule) → says_path (where_there name rule) ≡ says_exact (where_there name rule)
       there-alike name rule h = there-alike-cases (block_of t name) refl
         where
           there-alike-cases : (o : Option Block) → block_of t name ≡ o → says_path (where_there name rule) ≡ says_exact (where_there name rule)
           there-alike-cases None at =
               subst (λ o. eval v (implication_of (said_in (λ b. fact_said b is_there) o) (term_formula path cond_path t rule))
               ≡ eval v (implication_of (said_in (λ b. fact_said b is_there) o) (term_formula exact cond_exact t rule))) (sym at) refl
-          there-alike-cases (Some b) at = alike (where_there name rule) (refl, h (found-passes is_told_name t.blocks name b told-names at))
+          there-alike-cases (Some b) at = alike (where_there name rule) (refl, h (found-passes (is_told_name problem t told) t.blocks name b (told-names problem t told all) at))
 
       asked-alike : (name : Text) (place : ℕ) (b : Bool) → says_path (if b then where_there name (required_rule problem (names_for t) place name) else settled_test true)
           ≡ says_exact (if b then where_there name (required_rule problem (names_for t) place name) else settled_test true)
@@ -317,35 +255,12 @@ module _ (problem : Problem) (t : Table) (told : Text → Bool) (all : list_all 
       asked-alike name place false = refl
 
       demand-says : (d : Demand) → says_path (demand_rule problem (names_for t) (has_name t) d) ≡ keeps_demand problem g d
-      demand-says (demand.Root place) = alike (demand_rule problem (names_for t) (has_name t) (demand.Root place)) (roots-alike problem.roots told-roots place)
+      demand-says (demand.Root place) = alike (demand_rule problem (names_for t) (has_name t) (demand.Root place)) (roots-alike problem.roots (told-roots problem t told all) place)
           ∙ demand-said problem v exact cond_exact t g spelled (demand.Root place)
       demand-says (demand.Directive name number) = named-alike name number (has_name t name)
           ∙ demand-said problem v exact cond_exact t g spelled (demand.Directive name number)
       demand-says (demand.Setting name place) = asked-alike name place (has_name t name)
           ∙ demand-said problem v exact cond_exact t g spelled (demand.Setting name place)
-
--- ---- ranges
-
-module _ (problem : Problem) (t : Table) (n : ℕ) (words : WordsBelow n t) (m : ℕ) (path : PathFormulas) (le : n ≤ m) (paths : PathsBelow m path) where
-  when-below : (name : Text) (when : Condition) → SaidBelow m (condition_said problem t path name when)
-  when-below name when = rule-below m (word_said path t) (words m path le paths) (condition_rule (world_of problem) (names_for t) name when)
-
-  module _ (place : Places) (met_by : ℕ → Statement) (mets : MetBelow m met_by) where
-    term-below : (w : Term) → SaidBelow m (term_said path (condition_by problem t place path met_by) t w)
-    term-below (known rule) = rule-below m (word_said path t) (words m path le paths) rule
-    term-below (met name when) = term-below-cases (place name when)
-      where
-        term-below-cases : (o : Option ℕ) → SaidBelow m (placed_or met_by (condition_said problem t path name when) o)
-        term-below-cases None = when-below name when
-        term-below-cases (Some k) = mets k
-
-    formula-below : (rule : Proposition Term) → SaidBelow m (term_formula path (condition_by problem t place path met_by) t rule)
-    formula-below rule = rule-below m (term_said path (condition_by problem t place path met_by) t) term-below rule
-
-    row-below : (row : (Text → Proposition Term) × List Text)
-        → SaidBelow m (row_said problem t path (condition_by problem t place path met_by) row)
-    row-below row = all_of-below m (map (λ name. term_formula path (condition_by problem t place path met_by) t (row.0 name)) row.1)
-        (listed-below m (λ name. term_formula path (condition_by problem t place path met_by) t (row.0 name)) (λ name. formula-below (row.0 name)) row.1)
 
 -- the formulas of a problem are right
 pub rules-right : (problem : Problem) (t : Table) (n : ℕ) (structure : List Statement) (place : Places) → IsTable t → IsTableBelow n t

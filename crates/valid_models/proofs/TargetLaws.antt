@@ -36,4 +36,5 @@ all-told t targets = list_all-from (told_in t targets) targets (λ x at. there (
 -- what each of a set keeps, each of the list that the set was made of does
 pub all-asked : (test : Text → Bool) (texts : List Text) → list_all test (with_texts [] texts) ≡ true → list_all test texts ≡ true
 all-asked test texts all = list_all-from test texts (λ x there.
-    list_all-each test (with_texts [] texts) x all (contains-In (with_texts [] texts) x (in_texts [] texts x (inl (In-contains texts x there)))))
+    list_all-each test (with_texts [] texts) x all
+    (contains-In (with_texts [] texts) x (in_texts [] texts x (inl (In-contains texts x there)))))

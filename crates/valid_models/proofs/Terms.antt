@@ -1,10 +1,10 @@
 -- The words of rules of directives: conditions and paths alone are said in two ways, and alike where paths are told.
-use Rattle.std.proofs.Common.{◌≡◌, refl, ◌∙◌, sym, Bool, true, false, not, ◌&&◌, ℕ, zero, suc, List, [], ◌∷◌, map, Option, Some, None}
-use Rattle.std.specs.Prelude.{◌++◌, flat_map, if◌then◌else◌, ◌==◌, slice_get, filter}
+use Rattle.std.proofs.Common.{◌≡◌, refl, ◌∙◌, sym, Bool, true, false, not, ◌&&◌, ℕ, zero, suc, List, [], ◌∷◌, map, None}
+use Rattle.std.specs.Prelude.{flat_map, if◌then◌else◌, ◌==◌, slice_get, filter}
 use Rattle.std.specs.List.{list_all}
 use Rattle.std.specs.Str.{bytes_eq}
 use Rattle.std.proofs.lemmas.List.Folds.{list_all-append, list_all-map}
-use Rattle.std.proofs.lemmas.Bool.{and_parts, and_from}
+use Rattle.std.proofs.lemmas.Bool.{and_parts}
 use Rattle.spec_grammar.specs.declared.part.Spec.{Spec}
 use Rattle.clause_formulas.specs.Statements.{Statement, eval}
 use Rattle.clause_formulas.specs.Rules.{Proposition, fact, if_so}
@@ -12,7 +12,6 @@ use Rattle.graph_core.specs.Graphs.{Text}
 use Rattle.variant_values.specs.declared.kind.VariantKind.{VariantKind}
 use Rattle.variant_values.specs.declared.kind.VariantKind.TheVariants as kinds
 use Rattle.graph_core.specs.declared.node.Kinds.{Kinds}
-use Rattle.condition_rules.specs.Words.{is_some_and}
 use Rattle.virtuals.specs.Virtuals.{is_virtual}
 use Rattle.recipe_data.specs.OfSpecGrammar.Condition.{Condition}
 use Rattle.recipe_data.specs.declared.recipe.VariantRow.{VariantRow}
@@ -21,15 +20,13 @@ use Rattle.recipe_data.specs.declared.recipe.ConflictRow.{ConflictRow}
 use Rattle.recipe_data.specs.declared.recipe.ProvideRow.{ProvideRow}
 use Rattle.recipe_data.specs.declared.recipe.RequireRow.{RequireRow}
 use Rattle.problem.specs.Problems.{Problem, world_of, variants_at, depends_at, provides_at, conflicts_at, requirements_at, required_at}
-use Rattle.problem.specs.declared.demand.Demand.{Demand}
-use Rattle.problem.specs.declared.demand.Demand.TheVariants as demand
 use Rattle.literal_table.specs.Tables.{Table}
 use Rattle.graph_formulas.specs.Facts.{GraphWord, word_said, has_edge, has_virtual, provides_as}
-use Rattle.graph_formulas.specs.Lists.{◌and◌, settled_test, where_written, one_keeps, each_keeps, some, last_one, just_one}
-use Rattle.graph_formulas.specs.Words.{names_for, rule_said}
-use Rattle.graph_formulas.specs.Parts.{holds_rule, asked_rule, suits_rule, row_rule, provides_rule}
-use Rattle.graph_formulas.specs.Terms.{Term, known, met, term_said, known_rule, met_rule, built_rule}
-use Rattle.graph_formulas.specs.Directives.{answer_rule, root_rule, edge_to, edge_rule, suits_asked, constraint_rule, conflict_rule, choice_rule, requirement_rule}
+use Rattle.graph_formulas.specs.Lists.{◌and◌, settled_test, where_written, one_keeps, each_keeps, some, just_one}
+use Rattle.graph_formulas.specs.Words.{names_for}
+use Rattle.graph_formulas.specs.Parts.{holds_rule, asked_rule, suits_rule, row_rule}
+use Rattle.graph_formulas.specs.Terms.{Term, known, term_said, known_rule, met_rule}
+use Rattle.graph_formulas.specs.Directives.{answer_rule, edge_to, edge_rule, suits_asked, constraint_rule, conflict_rule, choice_rule, requirement_rule}
 use Rattle.graph_rules.specs.Built.{names_virtual}
 use Rattle.graph_formulas.specs.Edges.{no_kinds, asked_child, asks_rule, may_ask, kind_rule, virtual_rule, extra_edge_rule, extra_edges_rule, use_rule, used_rule, of_provider}
 use Rattle.graph_formulas.specs.Together.{no_other_rule, by_row_rule, together_rule}
@@ -37,27 +34,9 @@ use Rattle.graph_formulas.specs.Variants.{count_rule, definitions, variant_rule,
 use Rattle.graph_formulas.specs.Demands.{directive_rule, required_rule}
 use Rattle.graph_encoding.specs.Formulas.{PathFormulas}
 use Rattle.valid_models.specs.Targets.{spec_names, condition_names, choices_at, conditions_at, specs_at, targets_at}
-use Rattle.valid_models.proofs.Words.{AllWords, said-alike, given-all, unless-all, written-all, named-all, each-all, some-all, each-if, some-if, just-if, last-if}
+use Rattle.valid_models.proofs.Words.{AllWords, said-alike, given-all, unless-all, named-all, each-all, some-all, each-if, some-if, just-if, last-if}
 use Rattle.valid_models.proofs.Mentions.{Alike, all-flat, row-alike, asked-alike, suits-alike, holds-alike}
-
--- a test of the filtered
-pub all-filtered : {X : Type 0} (p q : X → Bool) (xs : List X) → list_all p xs ≡ true → list_all p (filter q xs) ≡ true
-all-filtered p q [] e = refl
-all-filtered p q (x ∷ xs) e = let h = and_parts (p x) (list_all p xs) e in all-filtered-cases (q x) h.0 (all-filtered p q xs h.1)
-  where
-    all-filtered-cases : (b : Bool) → p x ≡ true → list_all p (filter q xs) ≡ true
-        → list_all p (if b then x ∷ filter q xs else filter q xs) ≡ true
-    all-filtered-cases true a rest = and_from (p x) _ a rest
-    all-filtered-cases false a rest = rest
-
--- of both of two lists that are tested
-pub both-all : {X : Type 0} (p q : X → Bool) (xs : List X) → list_all p xs ≡ true → list_all q xs ≡ true
-    → list_all (λ x. p x && q x) xs ≡ true
-both-all p q [] e f = refl
-both-all p q (x ∷ xs) e f =
-    let a = and_parts (p x) (list_all p xs) e in
-    let b = and_parts (q x) (list_all q xs) f in
-    and_from (p x && q x) _ (and_from (p x) (q x) a.0 b.0) (both-all p q xs a.1 b.1)
+use Rattle.valid_models.proofs.Lists.{all-filtered, both-all}
 
 module _ (problem : Problem) (v : ℕ → Bool) (t : Table) (path other : PathFormulas) (told : Text → Bool)
     (same : (from to : Text) → told to ≡ true → eval v (path from to) ≡ eval v (other from to))

@@ -115,7 +115,8 @@ module _ {W : Type 0} (P : W → Type 0) where
       pub just-if : (xs : List T) → list_all test xs ≡ true → AllWords P (just_one rule xs)
       just-if xs e = (some-if xs e, all-words P (few_rules (length xs / 8) rule xs) (few-if (length xs / 8) xs e))
 
-  module _ {T : Type 0} (passes rule : T → Proposition W) (test : T → Bool) (h : (x : T) → test x ≡ true → AllWords P (passes x)) (g : (x : T)
+  module _ {T : Type 0} (passes rule : T → Proposition W) (test : T → Bool) (h : (x : T) → test x ≡ true
+      → AllWords P (passes x)) (g : (x : T)
       → AllWords P (rule x)) where
     in-turn-if : (xs : List T) → list_all test xs ≡ true → AllWords P (last_in_turn passes rule xs)
     in-turn-if [] e = tt

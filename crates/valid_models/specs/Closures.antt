@@ -21,18 +21,22 @@ use Rattle.valid_models.specs.Joined.{Places, IsPlaced, formulas_for, holds_at}
 
 module _ (problem : Problem) (names : List Text) (place : Places) where
   abbrev pub closure_formulas : Formulas
-  closure_formulas = formulas_for problem (table_for problem names) (structure (table_for problem names)) (conditions_of problem (table_for problem names)) place
+  closure_formulas = formulas_for problem (table_for problem names) (structure (table_for problem names))
+      (conditions_of problem (table_for problem names)) place
 
   abbrev pub closure_clauses : Clauses
-  closure_clauses = encode_on problem (table_for problem names) (size_for problem names) closure_formulas (targets_of problem (table_for problem names))
+  closure_clauses = encode_on problem (table_for problem names) (size_for problem names) closure_formulas
+      (targets_of problem (table_for problem names))
 
 -- the table of a closure, its decoding and the formulas of its rules are right
 abbrev pub ClosureIsRight : Type 0
 ClosureIsRight = (problem : Problem) (names : List Text) (place : Places) → IsClosure problem names → have_values problem names ≡ true
     → IsPlaced (conditions_of problem (table_for problem names)) place
-    → IsRightTable problem (table_for problem names) (size_for problem names) (closure_formulas problem names place) (λ v. decode v (table_for problem names))
+    → IsRightTable problem (table_for problem names) (size_for problem names) (closure_formulas problem names place)
+    (λ v. decode v (table_for problem names))
     × AreRightFormulas problem (table_for problem names) (size_for problem names) (closure_formulas problem names place)
-    (told_in (table_for problem names) (targets_of problem (table_for problem names))) (holds_at problem (conditions_of problem (table_for problem names)))
+    (told_in (table_for problem names) (targets_of problem (table_for problem names)))
+    (holds_at problem (conditions_of problem (table_for problem names)))
 
 -- models of the clauses decode to just the valid graphs, for each set of demands
 abbrev pub ClosureDecodes : Type 0
@@ -64,7 +68,8 @@ abbrev pub ClosureRanks : Type 0
 ClosureRanks = (problem : Problem) (names : List Text) (place : Places) (new : Clauses) (bits : List Lit) (sums : (ℕ → Bool) → List ℕ)
     (numbers : Content → List ℕ) → IsClosure problem names → have_values problem names ≡ true
     → IsPlaced (conditions_of problem (table_for problem names)) place → OrdersBits (closure_clauses problem names place) new bits sums
-    → ((v : ℕ → Bool) (g : Content) → SaysAll problem (table_for problem names) (size_for problem names) (closure_formulas problem names place)
+    → ((v : ℕ → Bool) (g : Content) → SaysAll problem (table_for problem names) (size_for problem names)
+    (closure_formulas problem names place)
     (targets_of problem (table_for problem names)) (holds_at problem (conditions_of problem (table_for problem names))) v g → IsWellFormed g
     → sums v ≡ numbers g)
     → RanksGraphs new (λ v. decode v (table_for problem names)) (IsValid problem) bits numbers

@@ -15,7 +15,8 @@ use Rattle.condition_rules.specs.Words.{is_one_text}
 use Rattle.graph_formulas.specs.Facts.{GraphWord, word_said}
 use Rattle.graph_formulas.specs.Parts.{condition_rule}
 use Rattle.graph_formulas.specs.Words.{names_for, rule_said}
-use Rattle.graph_formulas.specs.Terms.{Term, builds, known_rule, where_built, where_there}
+use Rattle.graph_formulas.specs.Terms.{Term, known_rule, where_built, where_there}
+use Rattle.problem.specs.Nodes.{builds}
 use Rattle.graph_formulas.specs.Built.{buildable_rule, version_rule, compiler_rule, machine_rule, provider_rule}
 use Rattle.graph_formulas.specs.Edges.{extra_edges_rule, used_rule, of_provider}
 use Rattle.graph_formulas.specs.Together.{together_rule}

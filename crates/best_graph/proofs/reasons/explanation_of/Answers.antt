@@ -1,6 +1,6 @@
 use Rattle.std.proofs.Common.{[], subst}
 use Rattle.optimum_search.specs.Finding.{IsFound}
-use Rattle.optimum_search.specs.declared.found.Found.TheVariants.{Optimal, Refuted, Spent}
+use Rattle.optimum_search.specs.declared.found.Found.TheVariants.{Refuted, Spent}
 use Rattle.best_graph.proofs.ReasonsShown.{satisfiable, unmet, refuted, spent, finite}
 use Rattle.best_graph.proofs.reasons.explanation_of.Goals as goal
 

@@ -19,7 +19,7 @@ returns-in_err-answer-clause-follows g c =
     let asked : IsAsked (words_of c.args._words.now) =
     record { command = c.args.command.now; named = c.requires.named; asks = c.in_ok-task.ensures.specs } in
     follows _ (words_of c.args._words.now) _ _ c.in_ok-task.task c.in_err-answer.field-0.0 c.from_residual-in_err-answer.result _ _ _ _
-    c.from_residual-in_err-answer.ensures.1 asked c.in_ok-task.ensures.work
+    c.from_residual-in_err-answer.ensures.1 asked c.in_ok-task.ensures.work c.in_ok-task.ensures.roots
     (ap (λ (k : Command). k.lock) c.command.view_is ∙ sym (ap lock_of_command c.requires.named))
     (ap (λ (k : Command). k.cert) c.command.view_is ∙ sym (ap cert_of_command c.requires.named)) c.in_err-answer.ensures.left
 

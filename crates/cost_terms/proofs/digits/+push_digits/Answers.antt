@@ -1,4 +1,4 @@
-use Rattle.std.proofs.Common.{arith, ◌∙◌, ap, ◌++◌, ◌∷◌, []}
+use Rattle.std.proofs.Common.{arith, ◌∙◌}
 use Rattle.cost_terms.proofs.DigitSteps.{next-fits, unit-fits, digit-step, on-ok}
 use Rattle.cost_terms.proofs.digits.+push_digits.Goals as goal
 

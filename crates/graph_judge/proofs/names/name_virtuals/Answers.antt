@@ -1,5 +1,4 @@
 use Rattle.std.proofs.Common.{refl}
-use Rattle.graph_core.specs.Graphs.{IsGraph}
 use Rattle.graph_rules.specs.Named.{named_edge}
 use Rattle.graph_judge.proofs.NamedLaws.{still_graph}
 use Rattle.graph_judge.proofs.names.name_virtuals.Goals as goal

@@ -1,6 +1,5 @@
 use Rattle.std.proofs.Common.{◌∙◌, ◌||◌}
 use Rattle.std.specs.Str.{bytes_eq}
-use Rattle.graph_core.specs.Graphs.{Text}
 use Rattle.reuse_db.specs.declared.record.Dependency.{Dependency}
 use Rattle.condition_rules.specs.Words.{is_some_and}
 use Rattle.problem.specs.Problems.{record_at}

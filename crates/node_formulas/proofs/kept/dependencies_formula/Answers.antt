@@ -1,7 +1,6 @@
 use Rattle.std.proofs.Common.{sym, ap, ◌∙◌, ◌||◌, map, List}
 use Rattle.std.specs.List.{filter}
 use Rattle.clause_formulas.specs.Statements.{all_statements}
-use Rattle.graph_core.specs.Graphs.{Text}
 use Rattle.reuse_db.specs.declared.record.Dependency.{Dependency}
 use Rattle.problem.specs.Records.{kept_dependencies}
 use Rattle.graph_formulas.specs.Facts.{word_said}

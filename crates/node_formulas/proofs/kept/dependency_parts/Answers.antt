@@ -1,6 +1,5 @@
 use Rattle.std.proofs.Common.{refl, ◌||◌}
 use Rattle.std.proofs.lemmas.List.{drop_all}
-use Rattle.graph_core.specs.Graphs.{Text}
 use Rattle.reuse_db.specs.declared.record.Dependency.{Dependency}
 use Rattle.word_formulas.specs.Builders.{plain_said}
 use Rattle.node_formulas.specs.Rows.{only_if}

@@ -6,7 +6,8 @@ use Rattle.graph_core.specs.Graphs.{Text}
 use Rattle.graph_core.specs.declared.node.Origin.{Origin}
 use Rattle.literal_table.specs.Choices.{choice_values}
 use Rattle.graph_formulas.specs.Facts.{word_said, has_origin, node_has}
-use Rattle.graph_formulas.specs.Kept.{same_origin, origin_rule, kept_rule}
+use Rattle.graph_formulas.specs.Kept.{origin_rule, kept_rule}
+use Rattle.problem.specs.Nodes.{same_origin}
 use Rattle.graph_formulas.specs.Laws.{children_of}
 use Rattle.word_formulas.specs.Builders.{no_paths, plain_said}
 use Rattle.word_formulas.proofs.Steps.{ok-same, each-said}

@@ -2,7 +2,8 @@ use Rattle.std.proofs.Common.{rules, ap, ◌∙◌}
 use Rattle.clause_formulas.specs.Rules.{fact, if_so}
 use Rattle.graph_core.specs.Graphs.{Text}
 use Rattle.graph_formulas.specs.Facts.{has_origin, node_has}
-use Rattle.graph_formulas.specs.Kept.{same_origin, origin_rule}
+use Rattle.graph_formulas.specs.Kept.{origin_rule}
+use Rattle.problem.specs.Nodes.{same_origin}
 use Rattle.word_formulas.specs.Builders.{node_said, plain_said}
 use Rattle.word_formulas.proofs.Steps.{ok-same, ok-is, implies-same}
 use Rattle.node_formulas.proofs.kept_rows.origin_at.Goals as goal

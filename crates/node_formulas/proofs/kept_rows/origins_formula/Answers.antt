@@ -3,7 +3,8 @@ use Rattle.clause_store.specs.declared.Lit.{Lit}
 use Rattle.clause_formulas.specs.Rules.{fact, if_so}
 use Rattle.graph_core.specs.declared.node.Origin.{Origin}
 use Rattle.graph_formulas.specs.Facts.{has_origin, node_has}
-use Rattle.graph_formulas.specs.Kept.{same_origin, origin_rule}
+use Rattle.graph_formulas.specs.Kept.{origin_rule}
+use Rattle.problem.specs.Nodes.{same_origin}
 use Rattle.word_formulas.specs.Builders.{plain_said}
 use Rattle.node_formulas.proofs.kept_rows.origins_formula.Goals as goal
 

@@ -1,4 +1,4 @@
-use Rattle.std.proofs.Common.{rules, sym, ap, ◌∙◌, map}
+use Rattle.std.proofs.Common.{rules, sym, map}
 use Rattle.clause_formulas.specs.Rules.{fact}
 use Rattle.clause_formulas.specs.Statements.{all_statements}
 use Rattle.graph_core.specs.Graphs.{Text}

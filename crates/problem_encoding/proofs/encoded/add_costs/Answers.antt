@@ -3,9 +3,9 @@ use Rattle.std.specs.List.Sorted.{IsPermutation}
 use Rattle.std.specs.List.{filter_map}
 use Rattle.std.proofs.lemmas.Result.{IfOk-weaker}
 use Rattle.possible_closure.specs.Closures.{closure_of}
-use Rattle.ranked_costs.specs.Walks.{walked_names, post_order}
+use Rattle.ranked_costs.specs.Walks.{post_order}
+use Rattle.literal_table.specs.Tables.{table_names, Table}
 use Rattle.problem_formulas.specs.Given.{no_place}
-use Rattle.literal_table.specs.Tables.{Table}
 use Rattle.ranked_costs.specs.Small.{are_small}
 use Rattle.ranked_costs.specs.Built.{terms_for, rank_costs_on}
 use Rattle.problem_encoding.specs.Built.{order_in, table_of}
@@ -33,11 +33,11 @@ pub rank_costs-requires-clause-small : goal.rank_costs-requires-clause-small
 rank_costs-requires-clause-small c =
     let p = c.args.problem.now in
     let r = c.requires.ruled in
-    let each : IsPermutation (walked_names c.args.table.now) c.as_slice-2.result.now =
-    subst (IsPermutation (walked_names c.args.table.now)) (sym (c.as_slice-2.ensures.value ∙ c.in_ok-order.ensures))
+    let each : IsPermutation (table_names c.args.table.now) c.as_slice-2.result.now =
+    subst (IsPermutation (table_names c.args.table.now)) (sym (c.as_slice-2.ensures.value ∙ c.in_ok-order.ensures))
     (c.order_laws.ensures.each c.args.table.now c.as_slice.result.now) in
-    let own : IsPermutation (walked_names (table_of p)) c.as_slice-2.result.now =
-    subst (λ (t : Table). IsPermutation (walked_names t) c.as_slice-2.result.now) r.is_table each in
+    let own : IsPermutation (table_names (table_of p)) c.as_slice-2.result.now =
+    subst (λ (t : Table). IsPermutation (table_names t) c.as_slice-2.result.now) r.is_table each in
     subst (λ (t : Table). are_small (terms_for p t c.args.values.now c.as_slice-2.result.now) ≡ true) (sym r.is_table)
     (c.costs_laws.ensures.small p (closure_of p) c.args.values.now c.as_slice-2.result.now c.requires.limits r.closure c.requires.few own)
 
@@ -45,8 +45,8 @@ pub returns-clause-costed : goal.returns-clause-costed
 returns-clause-costed c =
     let p = c.args.problem.now in
     let r = c.requires.ruled in
-    let each : IsPermutation (walked_names c.args.table.now) c.as_slice-2.result.now =
-    subst (IsPermutation (walked_names c.args.table.now)) (sym (c.as_slice-2.ensures.value ∙ c.in_ok-order.ensures))
+    let each : IsPermutation (table_names c.args.table.now) c.as_slice-2.result.now =
+    subst (IsPermutation (table_names c.args.table.now)) (sym (c.as_slice-2.ensures.value ∙ c.in_ok-order.ensures))
     (c.order_laws.ensures.each c.args.table.now c.as_slice.result.now) in
     IfOk-weaker c.rank_costs.result _ _ (λ bits are.
     whole p (closure_of p) no_place r.closure r.has (unplaced p (closure_of p)) c.costs_laws.ensures.ranks c.costs_laws.ensures.spells

@@ -1,5 +1,4 @@
 use Rattle.std.proofs.Common.{◌≡◌, ◌++◌, take, map}
-use Rattle.std.specs.List.{flat_map}
 use Rattle.valid_models.specs.Joined.{condition_said}
 use Rattle.rule_formulas.specs.Paths.{path_by}
 use Rattle.problem_formulas.proofs.listed.push_variants.Given as goal

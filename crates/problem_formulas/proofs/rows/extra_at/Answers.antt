@@ -3,7 +3,7 @@ use Rattle.clause_formulas.specs.Statements.{implication_of}
 use Rattle.graph_core.specs.Graphs.{Text}
 use Rattle.graph_formulas.specs.Facts.{has_origin}
 use Rattle.graph_formulas.specs.Words.{names_for}
-use Rattle.graph_formulas.specs.Terms.{builds}
+use Rattle.problem.specs.Nodes.{builds}
 use Rattle.graph_formulas.specs.Edges.{extra_edges_rule}
 use Rattle.literal_table.specs.Tables.{children_of}
 use Rattle.graph_formulas.specs.Laws.{virtuals_on}

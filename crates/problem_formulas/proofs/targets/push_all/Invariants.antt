@@ -1,4 +1,4 @@
-use Rattle.std.proofs.Common.{◌≡◌, ◌++◌, take, map}
+use Rattle.std.proofs.Common.{◌≡◌, ◌++◌, take}
 use Rattle.std.specs.List.{flat_map}
 use Rattle.valid_models.specs.Targets.{targets_at}
 use Rattle.problem_formulas.proofs.targets.push_all.Given as goal

@@ -1,5 +1,4 @@
-use Rattle.std.proofs.Common.{◌≡◌, ◌++◌, take, map}
-use Rattle.std.specs.List.{flat_map}
+use Rattle.std.proofs.Common.{◌≡◌, ◌++◌, take}
 use Rattle.literal_table.specs.Choices.{choice_values}
 use Rattle.problem_formulas.proofs.targets.push_packages.Given as goal
 

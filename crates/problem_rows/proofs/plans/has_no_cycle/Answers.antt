@@ -5,7 +5,6 @@ use Rattle.std.specs.Cmp.Lexicographic.{bytes_decides}
 use Rattle.std.specs.Str.{bytes_eq}
 use Rattle.keyed_lists.proofs.OfReachability.CountLaws.{image_of}
 use Rattle.keyed_lists.proofs.OfReachability.SpreadLaws.{reaches_decides}
-use Rattle.graph_core.specs.declared.node.Node.{Node}
 use Rattle.graph_core.specs.Graphs.{name_of}
 use Rattle.graph_core.specs.Paths.{arcs_of, reaches_in}
 use Rattle.graph_core.proofs.PathLaws.{begins_at_node}

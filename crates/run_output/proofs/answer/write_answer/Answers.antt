@@ -38,3 +38,12 @@ returns-in_ok-said-in-Reasons-clause-kept g c =
     rw c.in-Reasons.is (of_least c.args.lock.now c.args.cert.now c.in-Reasons.input files files _ _ c.in_ok-said-in-Reasons.said.outcome
     c.in_ok-said-in-Reasons.said.text.items _ c.tell-in-Reasons.result c.in_ok-said-in-Reasons.ensures.kept c.tell-in-Reasons.ensures.outcome
     c.tell-in-Reasons.ensures.out)
+
+pub returns-in-Each-clause-left : goal.returns-in-Each-clause-left
+returns-in-Each-clause-left g c = rw c.in-Each.is (c.write_each.ensures.left c.args.cert.now)
+
+pub returns-in-Each-clause-held : goal.returns-in-Each-clause-held
+returns-in-Each-clause-held g c = rw c.in-Each.is (c.write_each.ensures.held c.args.cert.now)
+
+pub returns-in-Each-clause-kept : goal.returns-in-Each-clause-kept
+returns-in-Each-clause-kept g c = rw c.in-Each.is (c.write_each.ensures.kept c.args.cert.now)

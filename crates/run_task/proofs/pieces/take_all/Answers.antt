@@ -1,4 +1,4 @@
-use Rattle.std.proofs.Common.{◌≡◌, subst, ◌∙◌, arith}
+use Rattle.std.proofs.Common.{subst, ◌∙◌, arith}
 use Rattle.run_task.specs.Pieces.{Moves}
 use Rattle.run_task.specs.declared.pieces.Next.{Next}
 use Rattle.run_task.specs.declared.pieces.Next.TheVariants.{More, End, Long}

@@ -1,4 +1,4 @@
-use Rattle.std.proofs.Common.{◌≡◌, ◌<◌, ◌-◌, length, take, ap, sym, ◌∙◌, arith}
+use Rattle.std.proofs.Common.{◌-◌, take, arith}
 use Rattle.run_task.proofs.Next.{next_end, next_settled, next_long, next_more, not_true, not_false}
 use Rattle.run_task.proofs.pieces.take_next.Goals as goal
 

@@ -1,4 +1,3 @@
-use Rattle.std.proofs.Common.{◌∙◌}
 use Rattle.table_building.proofs.Indexed.{among_each}
 use Rattle.table_building.proofs.members.members.Goals as goal
 

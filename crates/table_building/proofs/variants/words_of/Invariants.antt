@@ -1,4 +1,4 @@
-use Rattle.std.proofs.Common.{◌≡◌, take, map}
+use Rattle.std.proofs.Common.{◌≡◌, take}
 use Rattle.std.specs.List.{flat_map}
 use Rattle.keyed_lists.specs.Lent.{lent}
 use Rattle.table_building.proofs.variants.words_of.Given as goal

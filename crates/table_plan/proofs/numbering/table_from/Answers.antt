@@ -1,5 +1,5 @@
 use Rattle.table_plan.specs.Numbers.{table_from}
-use Rattle.table_plan.proofs.Tables.{table_right}
+use Rattle.table_plan.proofs.TableOrder.{table_right}
 use Rattle.table_plan.proofs.numbering.table_from.Goals as goal
 
 pub new-requires : goal.new-requires

@@ -1,4 +1,5 @@
-use Rattle.table_plan.proofs.Tables.{spelled, others_stay, table_right}
+use Rattle.table_plan.proofs.Tables.{spelled, others_stay}
+use Rattle.table_plan.proofs.TableOrder.{table_right}
 use Rattle.table_plan.proofs.RangeLaws.{table_below}
 use Rattle.table_plan.proofs.spelling_theorems.spelling_laws.Goals as goal
 

@@ -1,5 +1,4 @@
 use Rattle.std.proofs.Common.{◌≡◌, ◌++◌, map, drop}
-use Rattle.std.specs.Str.{bytes_eq}
 use Rattle.clause_formulas.specs.Statements.{atom, both_statements}
 use Rattle.literal_table.specs.Choices.{any_choice}
 use Rattle.cost_terms.specs.Differ.{same_compilers}

@@ -2,7 +2,6 @@ use Rattle.std.proofs.Common.{◌≡◌, ◌++◌, map, drop}
 use Rattle.std.specs.Str.{bytes_eq}
 use Rattle.clause_formulas.specs.Statements.{atom, both_statements}
 use Rattle.literal_table.specs.Choices.{any_choice}
-use Rattle.cost_terms.specs.Differ.{same_compilers}
 use Rattle.term_builder.proofs.difference_terms.same_texts.Given as goal
 
 abbrev pub invariant-loop-x : goal.invariant-loop-x

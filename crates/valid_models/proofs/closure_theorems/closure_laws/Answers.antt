@@ -34,27 +34,32 @@ returns c =
       decodes = λ problem names place closure has placed.
           let t = table_for problem names in
           let b = both problem names place closure has placed in
-          c.encoding_laws.ensures problem t (size_for problem names) (closure_formulas problem names place) (λ v. decode v t) (targets_of problem t)
+          c.encoding_laws.ensures problem t (size_for problem names) (closure_formulas problem names place) (λ v. decode v t)
+          (targets_of problem t)
           (holds_at problem (conditions_of problem t)) b.0 b.1;
       structured = λ problem names place closure has placed.
           let t = table_for problem names in
           let b = both problem names place closure has placed in
-          c.model_laws.ensures.structured problem t (size_for problem names) (closure_formulas problem names place) (λ v. decode v t) (targets_of problem t)
+          c.model_laws.ensures.structured problem t (size_for problem names) (closure_formulas problem names place) (λ v. decode v t)
+          (targets_of problem t)
           (holds_at problem (conditions_of problem t)) b.0 b.1;
       table = λ problem names closure.
           let plan = plan_of problem names in
           let right = c.plan_laws.ensures.plan problem names ((rises_decides byte_cmp nat_list_cmp_total names).0 closure.rising) in (
             c.spelling_laws.ensures.table 0 plan right,
-            subst (λ k. IsTableBelow k (table_for problem names)) (zero-more (size_for problem names)) (c.spelling_laws.ensures.below 0 plan),
+            subst (λ k. IsTableBelow k (table_for problem names)) (zero-more (size_for problem names))
+                (c.spelling_laws.ensures.below 0 plan),
           );
       range = λ problem names place closure has placed.
           let t = table_for problem names in
           let b = both problem names place closure has placed in
-          c.model_laws.ensures.range problem t (size_for problem names) (closure_formulas problem names place) (λ v. decode v t) (targets_of problem t)
+          c.model_laws.ensures.range problem t (size_for problem names) (closure_formulas problem names place) (λ v. decode v t)
+          (targets_of problem t)
           (holds_at problem (conditions_of problem t)) b.0 b.1;
       ranks = λ problem names place new bits sums numbers closure has placed orders says.
           let t = table_for problem names in
           let b = both problem names place closure has placed in
-          c.ranking_laws.ensures problem t (size_for problem names) (closure_formulas problem names place) (λ v. decode v t) (targets_of problem t)
+          c.ranking_laws.ensures problem t (size_for problem names) (closure_formulas problem names place) (λ v. decode v t)
+          (targets_of problem t)
           (holds_at problem (conditions_of problem t)) new bits sums numbers b.0 b.1 orders says;
     }

@@ -1,0 +1,3 @@
+-- what the commands pose, and what is meant by their answers
+pub mod Posed
+pub mod Meant
