@@ -47,7 +47,7 @@ FAMILIES = [
     ("virtuals times providers", families.virtuals, 20, 80, 12),
     ("versions", families.many_versions, 1250, 20000, 4),
     ("versions, conflicts of ranges", families.range_conflicts, 100, 1000, 12),
-    ("variants", families.variants, 500, 8000, 3.5),
+    ("variants", families.variants, 500, 8000, 2.5),
     ("definitions of one variant", families.definitions, 125, 4000, 7),
     ("values, single", families.values, 250, 8000, 7),
     ("values, multi, all by default", families.multi_values, 250, 8000, 8),

@@ -1,6 +1,6 @@
 #!/usr/bin/env python3
-"""Times odd input whose cost is a product: long lists of preferred versions and providers, lock files of nodes that no recipe makes, and
-long sets of versions over long recipes. Outside the gate.
+"""Times odd input whose cost is a product: long lists of preferred versions and providers, lock files of nodes that no recipe makes, of
+many variants and of many virtuals on one edge, and long sets of versions over long recipes. Outside the gate.
 
     bench/slow_corners.py PROGRAM [WORD]
 
@@ -24,16 +24,16 @@ def compact(data):
     return json.dumps(data, separators=(",", ":"), sort_keys=True)
 
 
-def node(name, version, children=()):
+def node(name, version, children=(), **more):
     record = MACHINE | {"name": name, "version": version,
-                        "dependencies": [{"hash": child, "kinds": ["build", "link"]} for child in sorted(children)]}
+                        "dependencies": [{"hash": child, "kinds": ["build", "link"]} for child in sorted(children)]} | more
     record["hash"] = base64.b32encode(hashlib.sha256(compact(record).encode()).digest()[:20]).decode().lower()
     return record | {"entry": None, "origin": "built"}
 
 
 def lock(nodes, root, providers=()):
     return compact({"nodes": sorted(nodes, key=lambda n: n["name"]), "providers": dict(providers),
-                    "roots": [{"hash": root["hash"], "spec": root["name"]}], "version": 1}) + "\n"
+                    "roots": [{"hash": root["hash"], "spec": root["name"]}], "version": 2}) + "\n"
 
 
 def recipe(lines):
@@ -79,6 +79,31 @@ def unknown_nodes(count):
     return {"r/packages/p/package.py": recipe(['version("1")']), "l": lock(nodes, nodes[0])}, ["judge", "r", "-", "-", "l", "p"]
 
 
+def judged_variants(count):
+    """As many variants, each with its default value."""
+    names = ["a%d" % i for i in range(count)]
+    chosen = node("p", "1", variants={name: ["true"] for name in names})
+    lines = ['version("1")'] + ['variant("%s", default=True)' % name for name in names]
+    return {"r/packages/p/package.py": recipe(lines), "l": lock([chosen], chosen)}, ["judge", "r", "-", "-", "l", "p"]
+
+
+def judged_virtuals(count):
+    """As many virtuals that one package asks for and another one provides."""
+    names = sorted("v%d" % i for i in range(count))
+    child = node("q", "1")
+    edge = {"hash": child["hash"], "kinds": ["build", "link"], "virtuals": names}
+    root = node("p", "1", dependencies=[edge])
+    files = {"r/packages/%s/package.py" % package: recipe(['version("1")'] + ['%s("%s")' % (word, name) for name in names])
+             for package, word in (("p", "depends_on"), ("q", "provides"))}
+    files["l"] = lock([root, child], root, [(name, "q") for name in names])
+    return files, ["judge", "r", "-", "-", "l", "p"]
+
+
+def chosen_virtuals(count):
+    files, words = judged_virtuals(count)
+    return files, ["concretize", "r", "-", "-", "o", "-", "p"]
+
+
 def long_set(count, width):
     """A set of as many versions that are not there, over a recipe of 46,000."""
     items = ",".join("=9%0*d" % (width - 1, i % 10 ** (width - 1)) for i in range(count))
@@ -92,6 +117,9 @@ CASES = [
     ("judge: a list of providers", preferred_providers, 10000),
     ("concretize: a list of providers", chosen_providers, 10000),
     ("judge: nodes that no recipe makes", unknown_nodes, 20000),
+    ("judge: variants", judged_variants, 20000),
+    ("judge: virtuals of one edge", judged_virtuals, 4000),
+    ("concretize: virtuals of one edge", chosen_virtuals, 2000),
     ("concretize: a set of five-digit versions over 46,000", lambda count: long_set(count, 5), 9000),
     ("concretize: a set of two-digit versions over 46,000", lambda count: long_set(count, 2), 16000),
 ]

@@ -6,12 +6,11 @@
 A case is as in bench/concretize/compare.py; cases that the program refuses, or leaves undecided, are counted and left out. Of each
 other one the best graph is found with a log, and `check` reads both, or `refute` the log where there is no graph; another word than
 `accepted` ends the script. Times are seconds of the processor in user mode, the least of some runs, without those of a run over the
-same files with an unknown root: what is left is what a command does with a problem that was read. With --before a second program does the same
-right beside the first.
+same files with an unknown root: what is left is what a command does with a problem that was read. Memory is the most that a run had, its
+reading within. With --before a second program does the same right beside the first.
 """
 import argparse
 import os
-import resource
 import statistics
 import subprocess
 import sys
@@ -24,11 +23,19 @@ DONE, UNSATISFIABLE = 0, 1
 LEAST = 0.0005  # seconds below which a time is none
 
 
-def user_seconds(words, folder):
+def run(words, folder):
     """Seconds of the processor, the status and the output of a run."""
-    before = resource.getrusage(resource.RUSAGE_CHILDREN).ru_utime
-    done = subprocess.run(words, cwd=folder, capture_output=True, check=False)
-    return resource.getrusage(resource.RUSAGE_CHILDREN).ru_utime - before, done.returncode, done.stdout + done.stderr
+    with subprocess.Popen(words, cwd=folder, stdout=subprocess.PIPE, stderr=subprocess.STDOUT) as child:
+        said = child.stdout.read()
+        _, status, used = os.wait4(child.pid, 0)
+        child.returncode = os.waitstatus_to_exitcode(status)
+    return used.ru_utime, child.returncode, said
+
+
+def memory(words, folder):
+    """The most memory that a run had, in kB. (What a script sees of its own child is no less than the script had.)"""
+    _, _, said = run(["/usr/bin/time", "-q", "-f", "%M", *words], folder)
+    return int(said.split()[-1])
 
 
 class Row:
@@ -39,7 +46,7 @@ class Row:
         front = [repo, settings, database]
         self.finding = [program, "concretize", *front, lock, cert, *specs]
         self.reading = [program, "concretize", *front, lock, cert, "no-such-package"]
-        _, self.status, _ = user_seconds(self.finding, folder)
+        _, self.status, _ = run(self.finding, folder)
         self.judging = [program, "check", *front, lock, cert, *specs]
         if self.status == UNSATISFIABLE:
             self.judging = [program, "refute", *front, cert, *specs]
@@ -48,10 +55,11 @@ class Row:
             with open(os.path.join(folder, cert), "rb") as file:
                 log = file.read()
             self.bytes, self.learnt = len(log), log.count(b"\nl ")
+            self.memory_ratio = memory(self.judging, folder) / memory(self.finding, folder)
 
     def run_all(self, folder):
         for name, words in ("read", self.reading), ("find", self.finding), ("judge", self.judging):
-            seconds, _, said = user_seconds(words, folder)
+            seconds, _, said = run(words, folder)
             self.seconds[name].append(seconds)
             if name == "judge" and said.strip() != b"accepted":
                 sys.exit("%r says %r" % (words, said))
@@ -79,14 +87,19 @@ def rows_of(case, options):
         return [row for row, _ in rows]
 
 
+def spread(ratios):
+    return "median %.2f, %.2f to %.2f" % (statistics.median(ratios), min(ratios), max(ratios))
+
+
 def tell(name, rows):
     """The line of some rows: logs and times."""
     times = [(row.beside_reading("find"), row.beside_reading("judge")) for row in rows]
-    ratios = sorted(row.ratio() for row in rows)
-    print("  %s: %d; logs: median %d bytes, all %d, most %d, %d learnt; find %.2f s, judge %.2f s in all; judge over find: median %.2f, %.2f to %.2f" % (
-        name, len(rows), statistics.median(row.bytes for row in rows), sum(row.bytes for row in rows), max(row.bytes for row in rows),
-        sum(row.learnt for row in rows), sum(time[0] for time in times), sum(time[1] for time in times),
-        statistics.median(ratios), ratios[0], ratios[-1]), flush=True)
+    sizes = [row.bytes for row in rows]
+    print("  %s: %d; logs: median %d bytes, most %d, all %d, with %d learnt clauses" % (
+        name, len(rows), statistics.median(sizes), max(sizes), sum(sizes), sum(row.learnt for row in rows)))
+    print("    seconds: to find %.2f, to judge %.2f in all" % (sum(time[0] for time in times), sum(time[1] for time in times)))
+    print("    judging over finding: seconds %s; memory %s" % (
+        spread([row.ratio() for row in rows]), spread([row.memory_ratio for row in rows])), flush=True)
 
 
 def tell_file(file, options):

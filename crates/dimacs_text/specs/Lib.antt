@@ -9,3 +9,4 @@ pub mod Signs
 pub mod Meanings
 pub mod Answers
 pub mod Attempts
+pub mod Faults

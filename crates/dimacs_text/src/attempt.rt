@@ -2,12 +2,10 @@
 
 ghost use Rattle.std.specs.Prelude.{◌≡◌, IfOk, IfSome, OnOk};
 ghost use Rattle.outside_desk.specs.Causes.{Counts};
-ghost use Rattle.outside_desk.specs.Files.{and_said};
 ghost use Rattle.run_input.specs.Inputs.{IsPosed};
-ghost use Rattle.run_input.specs.Stops.{EndsInOutputFault, EndsInPutFault};
 ghost use Rattle.run_input.specs.Words.{words_of};
 ghost use Rattle.dimacs_text.specs.Answers.{explained, text_of};
-ghost use Rattle.dimacs_text.specs.Attempts.{Attempts, AttemptsBy, StopsBefore, FailsToRead, FailsToPut, FailsToSay};
+ghost use Rattle.dimacs_text.specs.Attempts.{Attempts, AttemptsBy, Concludes, Follows, FollowsBy, SaysAll, StopsBefore, FailsToRead, FailsToPut, FailsToSay};
 
 use crate::{dimacs_text, rules_line};
 use outside_desk::{Desk, Sink, SinkFault};
@@ -51,47 +49,32 @@ fn text_of(alloc: Global, input: &Input) -> Result<Vec<u8>, AllocError>
 }
 
 /// Says a text on the sink of the answer.
-fn say<O: Sink>(alloc: Global, out: &mut O, text: &[u8]) -> Result<(), WriteStop>
-    ensures ok { OnOk result (O.said out.new ≡ and_said (O.said out.old) text.now) }
-    ensures cause { Counts (O.faults out.old) (O.faults out.new) (EndsInOutputFault result) }
-    ensures no_put { EndsInPutFault result → ⊥ }
+fn say<O: Sink>(alloc: Global, out: &mut O, text: &[u8]) -> Result<(), Stop>
+    ensures left { SaysAll text.now (O.said out.old) (O.said out.new) result }
+    ensures cause { Counts (O.faults out.old) (O.faults out.new) (FailsToSay result) }
+    ensures steady { OnOk result (O.faults out.new ≡ O.faults out.old) }
 {
     match out.say(alloc, text) {
         Ok(()) => Ok(()),
-        Err(SinkFault::Failed) => Err(WriteStop::Output),
-        Err(SinkFault::OutOfMemory) => Err(WriteStop::NoMemory),
+        Err(SinkFault::Failed) => Err(Stop::Write(WriteStop::Output)),
+        Err(SinkFault::OutOfMemory) => Err(Stop::Write(WriteStop::NoMemory)),
     }
 }
 
 /// Says the encoding of what was read.
-fn say_encoded<O: Sink>(alloc: Global, out: &mut O, input: &Input) -> Result<(), WriteStop>
-    requires { IsPosed input.now }
-    ensures ok { OnOk result (O.said out.new
-        ≡ and_said (O.said out.old) (text_of input.now.problem)) }
-    ensures cause { Counts (O.faults out.old) (O.faults out.new) (EndsInOutputFault result) }
-    ensures no_put { EndsInPutFault result → ⊥ }
-{
-    let text = text_of(alloc, input)?;
-    say(alloc, out, text.as_slice())
-}
-
-/// The same, as a run ends.
 fn say_input<O: Sink>(alloc: Global, out: &mut O, input: &Input) -> Result<(), Stop>
     requires { IsPosed input.now }
-    ensures ok { OnOk result (O.said out.new
-        ≡ and_said (O.said out.old) (text_of input.now.problem)) }
+    ensures left { SaysAll (text_of input.now.problem) (O.said out.old) (O.said out.new) result }
     ensures cause { Counts (O.faults out.old) (O.faults out.new) (FailsToSay result) }
-    ensures no_put { FailsToPut result → ⊥ }
-    ensures no_read { StopsBefore result → ⊥ }
+    ensures steady { OnOk result (O.faults out.new ≡ O.faults out.old) }
 {
-    match say_encoded(alloc, out, input) {
-        Ok(()) => Ok(()),
-        Err(stop) => Err(Stop::Write(stop)),
+    match text_of(alloc, input) {
+        Ok(text) => say(alloc, out, text.as_slice()),
+        Err(AllocError) => Err(Stop::Write(WriteStop::NoMemory)),
     }
 }
 
 /// Reads the problem that a command names, and says its encoding.
-#[tactic(auto, using(crate::proofs::Ends::was_said, crate::proofs::Ends::was_stopped))]
 fn attempt_by<R: Threads + Sync, D: Desk, O: Sink>(
     rt: &R,
     alloc: Global,
@@ -101,6 +84,10 @@ fn attempt_by<R: Threads + Sync, D: Desk, O: Sink>(
 ) -> Result<(), Stop>
     ensures outcome { IfSome (D.files desk.old) (λ files. AttemptsBy files command.now
         (O.said out.old) (O.said out.new) result) }
+    ensures follows { FollowsBy (D.files desk.old) command.now result }
+    ensures unsaid { StopsBefore result → O.said out.new ≡ O.said out.old }
+    ensures steady { Concludes result → (D.faults desk.new ≡ D.faults desk.old)
+        × (O.faults out.new ≡ O.faults out.old) }
     ensures read { Counts (D.faults desk.old) (D.faults desk.new) (FailsToRead result) }
     ensures said { Counts (O.faults out.old) (O.faults out.new) (FailsToSay result) }
     ensures no_put { FailsToPut result → ⊥ }
@@ -118,7 +105,6 @@ fn attempt_by<R: Threads + Sync, D: Desk, O: Sink>(
 }
 
 /// The same by the words of the command.
-#[tactic(auto, using(crate::proofs::Ends::was_named, crate::proofs::Ends::was_none))]
 fn attempt_over<R: Threads + Sync, D: Desk, O: Sink>(
     rt: &R,
     alloc: Global,
@@ -128,6 +114,10 @@ fn attempt_over<R: Threads + Sync, D: Desk, O: Sink>(
 ) -> Result<(), Stop>
     ensures outcome { IfSome (D.files desk.old) (λ files. Attempts files (words_of words.now)
         (O.said out.old) (O.said out.new) result) }
+    ensures follows { Follows (D.files desk.old) (words_of words.now) result }
+    ensures unsaid { StopsBefore result → O.said out.new ≡ O.said out.old }
+    ensures steady { Concludes result → (D.faults desk.new ≡ D.faults desk.old)
+        × (O.faults out.new ≡ O.faults out.old) }
     ensures read { Counts (D.faults desk.old) (D.faults desk.new) (FailsToRead result) }
     ensures said { Counts (O.faults out.old) (O.faults out.new) (FailsToSay result) }
     ensures no_put { FailsToPut result → ⊥ }
@@ -151,6 +141,10 @@ pub fn attempt<R: Threads + Sync, D: Desk, O: Sink>(
 ) -> Result<(), Stop>
     ensures outcome { IfSome (D.files desk.old) (λ files. Attempts files
         (explained (words_of words.now)) (O.said out.old) (O.said out.new) result) }
+    ensures follows { Follows (D.files desk.old) (explained (words_of words.now)) result }
+    ensures unsaid { StopsBefore result → O.said out.new ≡ O.said out.old }
+    ensures steady { Concludes result → (D.faults desk.new ≡ D.faults desk.old)
+        × (O.faults out.new ≡ O.faults out.old) }
     ensures read { Counts (D.faults desk.old) (D.faults desk.new) (FailsToRead result) }
     ensures said { Counts (O.faults out.old) (O.faults out.new) (FailsToSay result) }
     ensures no_put { FailsToPut result → ⊥ }

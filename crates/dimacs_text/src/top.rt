@@ -1,12 +1,13 @@
 //! The top call.
 
-ghost use Rattle.std.specs.Prelude.{◌≡◌, ◌⊎◌, IfOk, IfSome};
+ghost use Rattle.std.specs.Prelude.{◌≡◌, IfOk, IfSome};
 ghost use Rattle.std.specs.String.{string_bytes};
 ghost use Rattle.run_answers.specs.Exits.{IsAnsweredBy};
 ghost use Rattle.outside_desk.specs.Causes.{Rose};
 ghost use Rattle.run_input.specs.Words.{words_of};
-ghost use Rattle.dimacs_text.specs.Answers.{Answers, Posed, Poses, status_of, usage_line};
+ghost use Rattle.dimacs_text.specs.Answers.{Answers, IsFault, Posed, Poses, explained, status_of, usage_line};
 ghost use Rattle.dimacs_text.specs.Attempts.{Reports, line_of};
+ghost use Rattle.dimacs_text.specs.Faults.{IsOutOfMemory, IsReadFault, IsWriteFault};
 
 use crate::attempt::attempt;
 use outside_desk::{Desk, Sink, SinkFault};
@@ -73,11 +74,25 @@ pub fn run<R: Threads + Sync, D: Desk, O: Sink, E: Sink>(
         → ¬ Rose (E.faults err.old) (E.faults err.new)
         → IsAnsweredBy (status_of posed) result) }
 
-    // Faults come from outside.
-    ensures read_fault { result ≡ Status.ReadFault
-        → Rose (D.faults desk.old) (D.faults desk.new) }
-    ensures write_fault { result ≡ Status.WriteFault
-        → Rose (O.faults out.old) (O.faults out.new) ⊎ Rose (E.faults err.old) (E.faults err.new) }
+    // Faults come from outside, and are told. Reading stops before anything is said; where the sink of the answer fails, a front of
+    // the text was.
+    ensures read_fault { result ≡ Status.ReadFault →
+        IsReadFault (D.files desk.old) (explained (words_of words.now))
+        (D.faults desk.old, D.faults desk.new)
+        (O.said out.old, O.said out.new) (E.said err.old, E.said err.new) }
+    ensures write_fault { result ≡ Status.WriteFault →
+        IsWriteFault (D.files desk.old) (explained (words_of words.now))
+        (O.faults out.old, O.faults out.new)
+        (E.faults err.old, E.faults err.new) (O.said out.old, O.said out.new)
+        (E.said err.old, E.said err.new) }
+    ensures no_memory { result ≡ Status.NoMemory →
+        IsOutOfMemory (D.files desk.old) (explained (words_of words.now))
+        (O.faults out.old, O.faults out.new)
+        (O.said out.old, O.said out.new) (E.said err.old, E.said err.new) }
+
+    // Any other answer is of a run in which no device failed: none that did is asked again, or passed over.
+    ensures steady { ¬ IsFault result → (D.faults desk.new ≡ D.faults desk.old)
+        × (O.faults out.new ≡ O.faults out.old) × (E.faults err.new ≡ E.faults err.old) }
 
     // No file changes.
     ensures same { D.files desk.new ≡ D.files desk.old }

@@ -1,5 +1,5 @@
 -- What the clauses of a run come to.
-use Rattle.std.proofs.Common.{◌≡◌, refl, sym, ap, subst, ◌∙◌, cond, Bool, true, false, arith, ℕ, zero, suc, ◌<◌, length, List, [], ◌∷◌, Option, Some}
+use Rattle.std.proofs.Common.{◌≡◌, inl, inr, refl, sym, ap, subst, ◌∙◌, cond, Bool, true, false, arith, ℕ, zero, suc, ◌<◌, length, List, [], ◌∷◌, Option, Some}
 use Rattle.std.specs.List.{slice_index_or}
 use Rattle.std.specs.Prelude.{IsSomeAnd}
 use Rattle.std.specs.FinMap.{get, insert, get-insert}
@@ -18,10 +18,13 @@ use Rattle.run_output.specs.LeastLists.{ExplainsLeast, HaveGraphs}
 use Rattle.run_output.specs.Readings.{log_text}
 use Rattle.run_output.specs.Costs.{vector, smaller}
 use Rattle.run_output.specs.Valid.{valid_for}
-use Rattle.run_output.specs.Answers.{HasNone, IsFinished, IsSolved, IsUnsolved}
+use Rattle.run_output.specs.Answers.{HasNone, HasSpent, IsBudgetSpent, IsFinished, IsSolved, IsUnsolved}
 use Rattle.run_output.specs.Put.{with_cert, with_cert_by}
 use Rattle.run_output.specs.Line.{Line}
 use Rattle.run_output.specs.Exits.{Spoken}
+use Rattle.run_output.specs.Refusals.{line_of_refusal}
+use Rattle.run_output.specs.Status.{Status}
+use Rattle.run_output.specs.Status.TheVariants as statuses
 use Rattle.run_output.specs.Explanation.{Explanation}
 use Rattle.run_output.specs.Explanation.TheVariants as explanations
 use Rattle.run_output.specs.Input.{Input}
@@ -40,8 +43,8 @@ use Rattle.run_output.specs.Words.{Command, command_of, cert_path, is_dash_path,
 use Rattle.run_output.specs.Work.{Work}
 use Rattle.run_output.specs.Work.TheVariants as works
 use Rattle.run_output.specs.declared.answer.Outcome.TheVariants as outcomes
-use Rattle.concretizer.specs.Headline.{HasOutdone, HasShown, IsDone, IsUnsatisfiable}
-use Rattle.headline_laws.specs.Sentences.{AreUnmetAlone, HasGraph, IsBeaten, IsCheapest, IsCheapestAt, IsLeastAlone, LeavesCheapest, Reads, demands_with, others}
+use Rattle.concretizer.specs.Headline.{HasOutdone, HasShown, IsDone, IsRefused, IsUndecided, IsUnsatisfiable, Settles}
+use Rattle.headline_laws.specs.Sentences.{AreUnmetAlone, HasGraph, IsBeaten, IsCheapest, IsCheapestAt, IsLeastAlone, LeavesCheapest, Reads, demands_with, others, IsSettled, IsSpent, IsTurnedAway}
 use Rattle.headline_laws.specs.Sentences as said
 use Rattle.headline_laws.proofs.Posed.{explain, reasons, same_command, solve}
 
@@ -113,6 +116,18 @@ module _ (files : Files) (words : List (List ℕ)) (command : Command) (is : com
         subst (λ (task : Task). HasNone meaning (lock_path words) (cert_path words) task (Some files) after out.0 out.1)
         posed.is_task unsatisfiable.none in
         record { input = posed.input; read = posed.read; holds = none_of posed.input.problem unsolved.none }
+
+    pub undecided : command.work ≡ works.Concretize → IsUndecided meaning files words after out err → Reads files command IsSpent
+    undecided work undone =
+        let posed = solve files words command is undone.task undone.read work in
+        let spent : IsBudgetSpent meaning (cert_path words) posed.input.problem (Some files) after out.0 out.1 =
+        subst (λ (task : Task). HasSpent meaning (lock_path words) (cert_path words) task (Some files) after out.0 out.1)
+        posed.is_task undone.spent in
+        record {
+          input = posed.input;
+          read = posed.read;
+          holds = record { lines = spent.log; more = spent.spent.0; finite = spent.spent.1 };
+        }
 
     -- ---- `explain` and `reasons`
 
@@ -243,3 +258,22 @@ module _ (files : Files) (words : List (List ℕ)) (command : Command) (is : com
   pub refuted : command.work ≡ works.Refute → HasShown files words → Reads files command said.HasNone
   refuted work shown = let over = shown_by shown works.Refute work in
       record { input = over.input; read = over.read; holds = none_of over.input.problem over.shown }
+
+-- ---- refusals, and what is answered
+
+pub refused : (files : Files) (words : List (List ℕ)) (answer : Status) (after : Option Files) (out err : Spoken)
+    → IsRefused meaning files words answer after out err → IsTurnedAway files after out err
+refused files words answer after out err away = record {
+  unchanged = away.unchanged;
+  output = away.output;
+  line = line_of_refusal away.refusal;
+  errors = away.errors;
+}
+
+pub settled : (status : Status) → Settles status → IsSettled status
+settled statuses.Done is = inl refl
+settled statuses.Unsatisfiable is = inr (inl refl)
+settled statuses.Undecided is = inr (inr (inl refl))
+settled statuses.Stale is = inr (inr (inr (inl refl)))
+settled statuses.NoMemory is = inr (inr (inr (inr refl)))
+settled other is = absurd is

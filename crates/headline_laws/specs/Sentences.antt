@@ -1,5 +1,5 @@
 -- What an answer comes to, in the words of the files, of graphs that are valid, and of what they cost.
-use Rattle.std.specs.Prelude.{◌≡◌, ◌==◌, ℕ, true, false, not, filter, List, Option, Some, Ok, Contains, IsSomeAnd, filter_map, slice_get}
+use Rattle.std.specs.Prelude.{◌≡◌, ◌==◌, ◌⊎◌, ◌<◌, ◌-◌, ◌^◌, ℕ, length, true, false, not, filter, List, Option, Some, Ok, Contains, IsSomeAnd, filter_map, slice_get}
 use Rattle.std.specs.FinMap.{get}
 use Rattle.outside_desk.specs.Files.{Files, and_said}
 use Rattle.run_output.specs.Graphs.{Content}
@@ -11,6 +11,9 @@ use Rattle.run_output.specs.Valid.{valid, valid_for}
 use Rattle.run_output.specs.Costs.{vector, smaller}
 use Rattle.run_output.specs.Verdicts.{IsValidLock}
 use Rattle.run_output.specs.Exits.{Spoken}
+use Rattle.run_output.specs.Line.{Line}
+use Rattle.run_output.specs.Status.{Status}
+use Rattle.run_output.specs.Status.TheVariants as statuses
 use Rattle.run_output.specs.Inputs.{ReadsInput}
 use Rattle.run_output.specs.Input.{Input}
 use Rattle.run_output.specs.Words.{Command}
@@ -95,3 +98,22 @@ pub record IsLeastAlone (out : Spoken) (problem : Problem) : Type 0 where
   pub unmet : AreUnmet problem numbers
   pub needed : (number : ℕ) → Contains numbers number
       → (graph : Content) × IsWellFormed graph × (valid_for (demands_with problem (others number numbers)) problem graph ≡ true)
+
+-- the budget of the settings was spent, which none of 2^64 - 1 is: more lines were written than it counts
+pub record IsSpent (problem : Problem) : Type 0 where
+  pub lines : List Line
+  pub more : problem.settings.conflict_budget < length lines
+  pub finite : problem.settings.conflict_budget < 2 ^ 64 - 1
+
+-- no file changed, nothing was said on the one stream, and a line on the other
+pub record IsTurnedAway (files : Files) (after : Option Files) (out err : Spoken) : Type 0 where
+  pub unchanged : after ≡ Some files
+  pub output : out.1 ≡ out.0
+  pub line : List ℕ
+  pub errors : err.1 ≡ and_said err.0 line
+
+-- what answers input that nothing refuses, where no device fails
+abbrev pub IsSettled : Status → Type 0
+IsSettled status =
+    (status ≡ statuses.Done)
+    ⊎ ((status ≡ statuses.Unsatisfiable) ⊎ ((status ≡ statuses.Undecided) ⊎ ((status ≡ statuses.Stale) ⊎ (status ≡ statuses.NoMemory))))

@@ -3,10 +3,11 @@ ghost use Rattle.std.specs.Prelude.{◌≡◌, ℕ, List, Option, Some};
 ghost use Rattle.outside_desk.specs.Files.{Files};
 ghost use Rattle.run_output.specs.Exits.{Spoken};
 ghost use Rattle.run_output.specs.Senses.{meaning};
+ghost use Rattle.run_output.specs.Status.{Status};
 ghost use Rattle.run_output.specs.Words.{Command, command_of};
 ghost use Rattle.run_output.specs.Work.TheVariants as works;
-ghost use Rattle.concretizer.specs.Headline.{HasOutdone, HasShown, IsDone, IsUnsatisfiable};
-ghost use Rattle.headline_laws.specs.Sentences.{AreUnmetAlone, HasGraph, HasNone, IsBeaten, IsCheapestAt, IsLeastAlone, LeavesCheapest, Reads};
+ghost use Rattle.concretizer.specs.Headline.{HasOutdone, HasShown, IsDone, IsRefused, IsUndecided, IsUnsatisfiable, Settles};
+ghost use Rattle.headline_laws.specs.Sentences.{AreUnmetAlone, HasGraph, HasNone, IsBeaten, IsCheapestAt, IsLeastAlone, IsSettled, IsSpent, IsTurnedAway, LeavesCheapest, Reads};
 
 /// What the answers of the commands say.
 ///
@@ -16,6 +17,8 @@ ghost use Rattle.headline_laws.specs.Sentences.{AreUnmetAlone, HasGraph, HasNone
 /// costs less; Stale: it is valid, and another valid graph costs less. Done by `refute`, or Unsatisfiable by `concretize`: no graph is
 /// valid. Done by `explain`: some graph is valid; Unsatisfiable: none is for the demands that were
 /// said alone; by `reasons` besides: for each of them some graph is valid for all others.
+/// Undecided by `concretize`: the budget was spent. A refusal leaves every file as it was, and says
+/// one line. Input that nothing refuses is answered, or memory ran out.
 pub fn headline_laws()
     ensures concretized { (files : Files) (words : List (List ℕ)) (after : Option Files) (out err : Spoken) (command : Command)
         → command_of words ≡ Some command → command.work ≡ works.Concretize → IsDone meaning files words after out err
@@ -44,4 +47,10 @@ pub fn headline_laws()
     ensures reasons { (files : Files) (words : List (List ℕ)) (after : Option Files) (out err : Spoken) (command : Command)
         → command_of words ≡ Some command → command.work ≡ works.Reasons → IsUnsatisfiable meaning files words after out err
         → Reads files command (IsLeastAlone out) }
+    ensures undecided { (files : Files) (words : List (List ℕ)) (after : Option Files) (out err : Spoken) (command : Command)
+        → command_of words ≡ Some command → command.work ≡ works.Concretize → IsUndecided meaning files words after out err
+        → Reads files command IsSpent }
+    ensures refused { (files : Files) (words : List (List ℕ)) (answer : Status) (after : Option Files) (out err : Spoken)
+        → IsRefused meaning files words answer after out err → IsTurnedAway files after out err }
+    ensures settled { (status : Status) → Settles status → IsSettled status }
 {}

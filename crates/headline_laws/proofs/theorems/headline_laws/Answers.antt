@@ -1,4 +1,4 @@
-use Rattle.headline_laws.proofs.Meant.{checked, concretized, explained, fresh, none, reduced, refuted, satisfiable, stale}
+use Rattle.headline_laws.proofs.Meant.{checked, concretized, explained, fresh, none, reduced, refused, refuted, satisfiable, settled, stale, undecided}
 use Rattle.headline_laws.proofs.theorems.headline_laws.Goals as goal
 
 pub returns : goal.returns
@@ -12,4 +12,7 @@ returns c = record {
   satisfiable = λ files words after out err command is work done. satisfiable files words command is after out err work done;
   explained = λ files words after out err command is work done. explained files words command is after out err work done;
   reasons = λ files words after out err command is work done. reduced files words command is after out err work done;
+  undecided = λ files words after out err command is work done. undecided files words command is after out err work done;
+  refused = refused;
+  settled = settled;
 }
