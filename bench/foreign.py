@@ -9,7 +9,8 @@ A case is a line of JSON, in a file that may be packed by gzip: `name`; `files`,
 
 Each problem goes from `encode_dimacs` through site_tools/optimize: has it a graph, `check` has to say yes to its lock file and
 certificate; has it none, `refute` to the refutation. Of some with a graph that is not the best (the solver's first one, where its costs are
-others) `check` has to say no to its lock file, with the right certificate and with one that claims its bits.
+others) `check` has to say no to its lock file, with the right certificate and with one that claims its bits. The program's own log of each problem
+is made too, and the bytes of both are added up.
 """
 import argparse
 import base64
@@ -71,7 +72,7 @@ def claimed(log, bits, model):
 class Bench:
     def __init__(self, options):
         self.options = options
-        self.certificates = self.refutations = self.passed = self.tried = self.bytes = 0
+        self.certificates = self.refutations = self.passed = self.tried = self.bytes = self.own_bytes = 0
         self.faults = []
 
     def said(self, room, words):
@@ -96,7 +97,9 @@ class Bench:
         search = Search(dimacs.read(room / "clauses"), self.options.solver, self.options.prover)
         model = search.best()
         (room / "log").write_text(search.made.log.text(), "ascii")
+        self.said(room, ["concretize", repo, settings, database, "own.lock", "own.log", *specs])
         self.bytes += (room / "log").stat().st_size
+        self.own_bytes += (room / "own.log").stat().st_size
         if model is None:
             self.refutations += 1
             self.expect(case, room, ["refute", repo, settings, database, "log", *specs], True)
@@ -154,8 +157,10 @@ def main():
         print(fault)
     count = bench.certificates + bench.refutations
     print(
-        "%d problems by `%s` (%d certificates, %d refutations, %d bytes; %d passed over), %d graphs that are not the best: %d wrong, %.0f s"
-        % (count, options.solver, bench.certificates, bench.refutations, bench.bytes, bench.passed, bench.tried, len(bench.faults), time.monotonic() - begun)
+        "%d problems by `%s` (%d certificates, %d refutations, %d bytes, where the program's own have %d; %d passed over), %d graphs that are not "
+        "the best: %d wrong, %.0f s"
+        % (count, options.solver, bench.certificates, bench.refutations, bench.bytes, bench.own_bytes, bench.passed, bench.tried, len(bench.faults),
+           time.monotonic() - begun)
     )
     if count < options.count or bench.tried < options.wrong:
         print("fewer than were asked for")

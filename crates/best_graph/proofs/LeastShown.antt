@@ -10,7 +10,7 @@ use Rattle.clause_solver.specs.Models.{values_in}
 use Rattle.proof_log.specs.declared.line.Line.{Line}
 use Rattle.explain_failure.specs.Uses.{stands}
 use Rattle.optimum_search.specs.Finding.{MeetsAll}
-use Rattle.reason_minimum.specs.Parts.{clauses_for, without}
+use Rattle.reason_minimum.specs.Parts.{clauses_for, without_number}
 use Rattle.reason_minimum.specs.Least.{IsModel, IsUnmet, HaveModels, IsMinimal, IsOnTheWay, IsSpentFor}
 use Rattle.graph_core.specs.Graphs.{Content}
 use Rattle.graph_decoding.specs.Decoding.{decode, IsStructured}
@@ -120,7 +120,7 @@ module _ (problem : Problem) (decodes : RulesDecode problem) (parts : MeetsParts
   graphs-for all_of [] [] are = tt
   graphs-for all_of [] (m ∷ ms) are = are
   graphs-for all_of (n ∷ ns) [] are = are
-  graphs-for all_of (n ∷ ns) (m ∷ ms) are = (graph-for (without n all_of) m are.0, graphs-for all_of ns ms are.1)
+  graphs-for all_of (n ∷ ns) (m ∷ ms) are = (graph-for (without_number n all_of) m are.0, graphs-for all_of ns ms are.1)
 
   -- where no assignment meets their clauses, no graph is valid for them
   unmet-for : HasModels → (numbers : List ℕ) → IsUnmet (clauses_for numbers own) → explanations.IsUnmet problem numbers
@@ -154,7 +154,7 @@ module _ (problem : Problem) (decodes : RulesDecode problem) (parts : MeetsParts
   models-structured structured all_of [] (m ∷ ms) are = absurd are
   models-structured structured all_of (n ∷ ns) [] are = absurd are
   models-structured structured all_of (n ∷ ns) (m ∷ ms) are = All-cons (λ model. IsStructured (values_in model) (table_of problem)) m ms
-      (structured (stands (without n all_of)) (values_in m) ((parts own (without n all_of) (values_in m)).0 are.0.1))
+      (structured (stands (without_number n all_of)) (values_in m) ((parts own (without_number n all_of) (values_in m)).0 are.0.1))
       (models-structured structured all_of ns ms are.1)
 
   -- a spent budget

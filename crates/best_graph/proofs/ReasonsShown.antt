@@ -71,18 +71,16 @@ module _ (problem : Problem) (rules : Rules) (ruled : AreRules problem rules) (d
   -- it is a refutation of the problem's own rules
   pub refuted : (log : List Line) (numbers : List ℕ) → IsFound rules.clauses [] budget (Refuted log)
       → AreReasons rules.clauses.entries log numbers
-      → grounds.IsRefuted problem numbers
+      → grounds.IsRefuted problem numbers log
   refuted log numbers found reasons = record {
-    log = log;
     refutation = subst (λ (s : Clauses). IsRefutation s.vars (clauses_of s.entries) [] log) ruled.clauses found.0;
     reasons = subst (λ (s : Clauses). AreReasons s.entries log numbers) ruled.clauses reasons;
   }
 
   -- a spent budget
   pub spent : (log : List Line) → IsFound rules.clauses [] budget (Spent log) → IsBest rules.clauses [] budget (Spent log)
-      → IsSpent problem budget
+      → IsSpent problem budget log
   spent log found best = record {
-    log = log;
     spent = subst (λ (s : Clauses). IsSpentLog s.vars (clauses_of s.entries) [] budget log) ruled.clauses found;
     small = subst (λ (s : Clauses). budget < 3 ^ s.vars) ruled.clauses best.0;
   }

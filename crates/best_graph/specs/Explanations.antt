@@ -23,5 +23,5 @@ pub record IsUnmet (problem : Problem) (numbers : List ℕ) : Type 0 where
 -- some graph is valid; or none is, for these demands; or the budget was spent, as none of 2^64 - 1 is
 abbrev pub Explains : Problem → ℕ → Explanation → Type 0
 Explains problem budget Satisfiable = HasGraph problem
-Explains problem budget (Unmet numbers) = IsUnmet problem numbers
-Explains problem budget Undecided = budget < 2 ^ 64 - 1
+Explains problem budget (Unmet numbers log) = IsUnmet problem numbers
+Explains problem budget (Undecided log) = budget < 2 ^ 64 - 1

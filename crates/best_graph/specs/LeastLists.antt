@@ -4,7 +4,7 @@ use Rattle.clause_store.specs.Clauses.{clauses_of}
 use Rattle.proof_log.specs.declared.line.Line.{Line}
 use Rattle.proof_log.specs.Certificates.{IsSpentLog}
 use Rattle.explain_failure.specs.Uses.{stands, IsRising}
-use Rattle.reason_minimum.specs.Parts.{clauses_for, without, AreAll}
+use Rattle.reason_minimum.specs.Parts.{clauses_for, without_number, AreAll}
 use Rattle.graph_core.specs.Graphs.{Content}
 use Rattle.problem.specs.Nodes.{IsWellFormed}
 use Rattle.problem.specs.Problems.{Problem}
@@ -25,7 +25,7 @@ abbrev pub HaveGraphs : Problem → List ℕ → List ℕ → List Content → T
 HaveGraphs problem all [] [] = Unit {0}
 HaveGraphs problem all [] (g ∷ gs) = ⊥
 HaveGraphs problem all (n ∷ ns) [] = ⊥
-HaveGraphs problem all (n ∷ ns) (g ∷ gs) = IsValidFor problem (without n all) g × HaveGraphs problem all ns gs
+HaveGraphs problem all (n ∷ ns) (g ∷ gs) = IsValidFor problem (without_number n all) g × HaveGraphs problem all ns gs
 
 -- no graph is valid for these demands, and for each of them one is valid for all others: none can be left out
 pub record IsLeastList (problem : Problem) (numbers : List ℕ) (graphs : List Content) : Type 0 where

@@ -21,8 +21,8 @@ use problem::Problem;
 use proof_log::Log;
 use std::alloc::{AllocError, Global};
 
-/// Whether some graph is valid, and else the demands that a refutation rests on, where the search
-/// may learn so many clauses.
+/// Whether some graph is valid, and else the demands that a refutation rests on, with that refutation,
+/// where the search may learn so many clauses.
 ///
 /// The search is over the rules alone, so it ends at the first graph. Externals and records have
 /// values for their variants (`has_right_values`). `progress` is told how far it is.
@@ -72,11 +72,11 @@ fn explanation_of(
         Found::Optimal { .. } => Ok(Explanation::Satisfiable),
         Found::Refuted { log } => {
             let demands = reasons(alloc, &rules.clauses, &log)?;
-            Ok(Explanation::Unmet(demands))
+            Ok(Explanation::Unmet { demands, log })
         }
         Found::Spent { log } => {
             is_finite(&log);
-            Ok(Explanation::Undecided)
+            Ok(Explanation::Undecided { log })
         }
     }
 }

@@ -10,7 +10,7 @@ use Rattle.proof_log.specs.declared.line.Line.TheVariants.{Header, Learnt, Zero,
 use Rattle.proof_log.specs.Known.{AllClauses}
 use Rattle.proof_log.specs.Lines.{AllLines, OfLearnt}
 use Rattle.proof_log.specs.Texts.{line_of, IsLine}
-use Rattle.proof_log.specs.Readings.{Reading, with_line, with_byte, reading_from, no_bytes, reading, log_text, AtLineStart, AreWritable}
+use Rattle.proof_log.specs.Readings.{ReadLines, with_line, with_byte, reading_from, no_bytes, reading, log_text, AtLineStart, AreWritable}
 use Rattle.proof_log.proofs.Logs.{AllLines-append}
 use Rattle.proof_log.proofs.RangeLaws.{reads-spelled}
 use Rattle.proof_log.proofs.ReaderLaws.{line-start}
@@ -39,12 +39,12 @@ line-typed (Unsat chain) h = tt
 line-typed Spent h = tt
 line-typed End h = tt
 
-typed-line : (r : Reading) (o : Option Line) → line_of r.rest ≡ o → AreTyped r.lines → AreTyped (with_line r o).lines
+typed-line : (r : ReadLines) (o : Option Line) → line_of r.rest ≡ o → AreTyped r.lines → AreTyped (with_line r o).lines
 typed-line r None e a = a
 typed-line r (Some l) e a = AllLines-append (λ l. OfLearnt IsClause l) r.lines (l ∷ []) a
     (line-typed l ((reads-spelled r.rest l).0 e).0, tt)
 
-typed-byte : (r : Reading) (b : ℕ) → AreTyped r.lines → AreTyped (with_byte r b).lines
+typed-byte : (r : ReadLines) (b : ℕ) → AreTyped r.lines → AreTyped (with_byte r b).lines
 typed-byte r b a = by r.failed (b == 10)
   where
     by : (f n : Bool) → AreTyped (if f then r else (if n then with_line r (line_of r.rest) else record r { rest = r.rest ++ b ∷ [] })).lines
@@ -52,7 +52,7 @@ typed-byte r b a = by r.failed (b == 10)
     by false true = typed-line r (line_of r.rest) refl a
     by false false = a
 
-typed-from : (r : Reading) (bs : List ℕ) → AreTyped r.lines → AreTyped (reading_from r bs).lines
+typed-from : (r : ReadLines) (bs : List ℕ) → AreTyped r.lines → AreTyped (reading_from r bs).lines
 typed-from r [] a = a
 typed-from r (b ∷ bs) a = typed-from (with_byte r b) bs (typed-byte r b a)
 

@@ -79,7 +79,8 @@ impl TextChecker {
         values: Option<&[bool]>,
     ) -> Result<TextChecker, AllocError>
         ensures begun { IfOk result (λ checker.
-            IsAfter (begun clauses.now bits.now (option_map (λ v. v.now) values.entry)) [] checker) }
+            IsAfter (begun clauses.now bits.now (option_map (λ v. v.now) values.entry)) []
+            checker) }
         ensures in_order { OnOk result (AllClauses (clauses_of clauses.now.entries)) }
     {
         Ok(TextChecker {

@@ -4,13 +4,14 @@ ghost use Rattle.clause_circuits.specs.Gates.{Sides};
 ghost use Rattle.clause_circuits.specs.Shapes.{both, never};
 
 use clause_store::Lit;
+use smallvec::SmallVec;
 use std::alloc::{AllocError, Global};
 use std::marker::Model;
 
-/// A list of literals.
+/// A list of literals. Up to three stand in place; more take one allocation.
 #[derive(Drop)]
 pub struct Lits {
-    items: Vec<Lit>,
+    items: SmallVec<Lit, 3>,
 }
 
 impl Model for Lits {
@@ -28,7 +29,7 @@ impl Lits {
         ensures { IfOk result (λ l. l ≡ lits.now) }
     {
         Ok(Lits {
-            items: Vec::from_slice(alloc, lits)?,
+            items: SmallVec::from_slice(alloc, lits)?,
         })
     }
 

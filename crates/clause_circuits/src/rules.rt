@@ -6,6 +6,7 @@ ghost use Rattle.clause_circuits.specs.Shapes.{both, any_of, singles, cover_rule
 
 use crate::gate::{Gate, Lits, Shape};
 use clause_store::{Clause, Lit};
+use smallvec::SmallVec;
 use std::alloc::{AllocError, Global};
 
 /// The clauses that give a literal the meaning of a gate.
@@ -78,7 +79,7 @@ fn push_headed(
 ) -> Result<(), AllocError>
     ensures { OnOk result (rules.new.items ≡ rules.old.items ++ kept_clauses (head ∷ lits.now)) }
 {
-    let mut all = Vec::with_capacity(alloc, lits.len() + 1)?;
+    let mut all: SmallVec<Lit, 4> = SmallVec::new(alloc);
     all.push(head)?;
     all.extend_from_slice(lits)?;
     push_rule(alloc, rules, all.as_slice())

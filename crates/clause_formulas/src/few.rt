@@ -1,9 +1,10 @@
 //! The formulas of a long list.
 ghost use Rattle.std.specs.Prelude.{◌≡◌, ◌++◌, map, IfOk, OnOk};
-ghost use Rattle.clause_formulas.specs.Statements.{apart, atom, not_both};
+ghost use Rattle.clause_formulas.specs.Statements.{apart, atom};
 ghost use Rattle.clause_formulas.specs.Few.{none_of, halves_apart, few_of, few_among, one_among};
 
 use crate::Formula;
+use crate::formula::push_not_both;
 use clause_store::Lit;
 use std::alloc::{AllocError, Global};
 
@@ -82,24 +83,6 @@ fn push_apart(alloc: Global, parts: &mut Vec<Formula>, lits: &[Lit]) -> Result<(
 {
     for (i, lit) in lits.iter().enumerate() {
         push_not_both(alloc, parts, *lit, &lits[i + 1..])?;
-    }
-    Ok(())
-}
-
-// Not both a literal and one of the others.
-fn push_not_both(
-    alloc: Global,
-    parts: &mut Vec<Formula>,
-    lit: Lit,
-    others: &[Lit],
-) -> Result<(), AllocError>
-    ensures { OnOk result (parts.new.items ≡ parts.old.items ++ map (not_both lit) others.now) }
-{
-    for other in others {
-        let mut pair = Vec::new(alloc);
-        pair.push(Formula::lit(lit.negated()))?;
-        pair.push(Formula::lit(other.negated()))?;
-        parts.push(Formula::any(pair))?;
     }
     Ok(())
 }

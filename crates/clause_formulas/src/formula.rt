@@ -141,21 +141,21 @@ impl Formula {
         let mut parts = Vec::new(alloc);
         parts.push(Formula::any(some))?;
         for (i, lit) in lits.iter().enumerate() {
-            push_apart(alloc, &mut parts, *lit, &lits[i + 1..])?;
+            push_not_both(alloc, &mut parts, *lit, &lits[i + 1..])?;
         }
         Formula::all(alloc, parts)
     }
 }
 
 /// Not both a literal and one of the others.
-fn push_apart(
+pub(crate) fn push_not_both(
     alloc: Global,
     parts: &mut Vec<Formula>,
     lit: Lit,
     others: &[Lit],
 ) -> Result<(), AllocError>
     ensures { OnOk result (parts.new.items ≡ parts.old.items
-        ++ map (λ other. not_both lit other) others.now) }
+        ++ map (not_both lit) others.now) }
 {
     for other in others {
         let mut pair = Vec::new(alloc);

@@ -49,5 +49,6 @@ not_ten statuses.Refused e = absurd (omega (arith, e))
 not_ten statuses.NoMemory e = absurd (omega (arith, e))
 not_ten statuses.Stale e = absurd (omega (arith, e))
 
+-- no two answers have one number, and none has 10, which is the program's own
 pub told_apart : IsToldApart
 told_apart = (λ one other same. same_inside one other (sym (named one) ∙ (ap status_at same ∙ named other)), not_ten)

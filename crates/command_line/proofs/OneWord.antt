@@ -19,6 +19,7 @@ one_word word =
     none_of_two (is_same_path word (codes "trial")) (option_and_then (λ verb. command_by verb []) (verb_of word))
     (none_behind (λ verb. command_by verb []) (verb_of word) (λ verb. refl))
 
+-- fewer than two words are no command
 pub alone : (words : List (String Global)) → length words < 2 → command_of (words_of words) ≡ None
 alone [] most = refl
 alone (word ∷ []) most = one_word (string_bytes word)

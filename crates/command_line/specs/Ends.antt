@@ -8,7 +8,7 @@ use Rattle.std.specs.declared.io.ErrorKind.TheVariants as kinds
 use Rattle.outside_desk.specs.Causes.{Rose}
 use Rattle.outside_desk.specs.Files.{Files}
 use Rattle.run_output.specs.CertificateVerdicts.{no_verdict}
-use Rattle.run_output.specs.Exits.{IsAnsweredBy, IsRefusalStatus, Spoken, number_of}
+use Rattle.run_output.specs.Exits.{IsAnsweredBy, IsRefusalStatus, IsSilent, Says, SaysFront, Spoken, number_of}
 use Rattle.run_output.specs.Line.{Line}
 use Rattle.run_output.specs.Refusal.{Refusal}
 use Rattle.run_output.specs.Refusals.{status_of}
@@ -20,7 +20,7 @@ use Rattle.run_output.specs.Task.{Task}
 use Rattle.run_output.specs.Tasks.{Poses}
 use Rattle.run_output.specs.Words.{command_of}
 use Rattle.concretizer.specs.Asked.{ChangesOnly}
-use Rattle.concretizer.specs.Headline.{HasOutdone, HasShown, IsDone, IsOfInput, IsOutOfMemory, IsOutdated, IsReadFault, IsRefused, IsSilent, IsUndecided, IsUnsatisfiable, IsWriteFault, Keeps, Reports, ReportsWords, Says, SaysFront, Settles}
+use Rattle.concretizer.specs.Headline.{HasOutdone, HasShown, IsDone, IsOfInput, IsOutOfMemory, IsOutdated, IsReadFault, IsRefused, IsUndecided, IsUnsatisfiable, IsWriteFault, Keeps, Reports, ReportsWords, Settles}
 use Rattle.concretizer.specs.Logs.{IsLogged, KeepsFor}
 
 -- ---- what `run` promises of its answer

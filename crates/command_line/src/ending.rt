@@ -2,6 +2,7 @@
 
 ghost use Rattle.std.specs.Prelude.{◌≡◌, None, IfSome};
 ghost use Rattle.std.specs.Process.{exit_status};
+ghost use Rattle.outside_desk.specs.Files.{told};
 ghost use Rattle.run_output.specs.Exits.{number_of};
 ghost use Rattle.run_output.specs.Words.{words_of};
 ghost use Rattle.concretizer.specs.Headline.{Reports};
@@ -75,7 +76,7 @@ fn end_run<R: Threads + Sync, D: Desk, O: Sink, E: Sink, P: Progress>(
     kept: &mut Log,
     progress: &mut P,
 ) -> ExitCode
-    ensures { EndsRun (words_of words.now) (D.files desk.old, D.files desk.new)
+    ensures { EndsRun (words_of words.now) (told (D.files desk.old) (D.files desk.new), D.files desk.new)
         (D.faults desk.old, D.faults desk.new) (D.put_faults desk.old, D.put_faults desk.new)
         (O.faults out.old, O.faults out.new) (E.faults err.old, E.faults err.new)
         (O.said out.old, O.said out.new) (E.said err.old, E.said err.new) kept.new
@@ -97,11 +98,13 @@ pub fn answer_words<R: Threads + Sync, D: Desk, O: Sink, E: Sink, P: Progress>(
     kept: &mut Log,
     progress: &mut P,
 ) -> ExitCode
-    ensures own { IfSome (own.own_text (words_of words.now)) (λ text. (desk.new ≡ desk.old) × (kept.new ≡ kept.old)
+    ensures own { IfSome (own.own_text (words_of words.now)) (λ text. (desk.new ≡ desk.old)
+        × (kept.new ≡ kept.old)
         × EndsOwn text (O.faults out.old, O.faults out.new) (E.faults err.old, E.faults err.new)
         (O.said out.old, O.said out.new) (E.said err.old, E.said err.new) (exit_status result)) }
     ensures ran { own.own_text (words_of words.now) ≡ None → EndsRun (words_of words.now)
-        (D.files desk.old, D.files desk.new) (D.faults desk.old, D.faults desk.new)
+        (told (D.files desk.old) (D.files desk.new), D.files desk.new)
+        (D.faults desk.old, D.faults desk.new)
         (D.put_faults desk.old, D.put_faults desk.new) (O.faults out.old, O.faults out.new)
         (E.faults err.old, E.faults err.new) (O.said out.old, O.said out.new)
         (E.said err.old, E.said err.new) kept.new (exit_status result) }

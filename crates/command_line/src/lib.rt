@@ -16,10 +16,16 @@ mod one_file;
 mod own_words;
 mod stage_file;
 
-ghost use Rattle.std.specs.Prelude.{◌≡◌};
+ghost use Rattle.std.specs.Prelude.{◌≡◌, List, None};
 ghost use Rattle.std.specs.IoError.{error_kind};
 ghost use Rattle.std.specs.Process.{exit_status};
-ghost use Rattle.command_line.specs.Ends.{number_without_words};
+ghost use Rattle.outside_desk.specs.Files.{told};
+ghost use Rattle.outside_desk.specs.RealDesk.{real_faults, real_files, real_put_faults};
+ghost use Rattle.outside_desk.specs.RealSink.{real_sink_faults};
+ghost use Rattle.run_output.specs.Line.{Line};
+ghost use Rattle.run_output.specs.Words.{words_of};
+ghost use Rattle.command_line.specs.Ends.{EndsRun, number_without_words};
+ghost use Rattle.command_line.specs.OwnWords as own;
 
 use crate::ending::{ended, report};
 use crate::one_file::one_file;
@@ -89,16 +95,33 @@ pub fn run_on_machine<
     }
     let mut desk = RealDesk::new(rt);
     let mut out = RealSink::new(out);
+    answer_on_machine(rt, words, &mut desk, &mut out, &mut err)
+}
+
+/// Answers the words over a desk of the machine, whatever it is supposed to hold: what `run` says of the files that a desk tells to the
+/// end so holds of each map of files with which all agrees that was read of the machine.
+pub fn answer_on_machine<
+    R: Env + Files + AllocGlobal + Threads + Sync,
+    O: Write + Drop,
+    E: Write + Drop,
+>(
+    rt: &R,
+    words: &[String],
+    desk: &mut RealDesk<'_, R, R::File>,
+    out: &mut RealSink<O>,
+    err: &mut RealSink<E>,
+) -> ExitCode
+    ensures ran { own.own_text (words_of words.now) ≡ None
+        → (kept : List Line) × EndsRun (words_of words.now)
+        (told (real_files desk.old) (real_files desk.new), real_files desk.new)
+        (real_faults desk.old, real_faults desk.new)
+        (real_put_faults desk.old, real_put_faults desk.new)
+        (real_sink_faults out.old, real_sink_faults out.new)
+        (real_sink_faults err.old, real_sink_faults err.new)
+        (None, None) (None, None) kept (exit_status result) }
+{
+    let alloc = rt.alloc();
     let mut kept = Log::new(alloc);
     let mut progress = StageFile::new(rt);
-    answer_words(
-        rt,
-        alloc,
-        words,
-        &mut desk,
-        &mut out,
-        &mut err,
-        &mut kept,
-        &mut progress,
-    )
+    answer_words(rt, alloc, words, desk, out, err, &mut kept, &mut progress)
 }

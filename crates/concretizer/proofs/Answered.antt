@@ -1,7 +1,7 @@
 -- What is said of an attempt that answered, and of one that stopped, in one sense or the other.
 use Rattle.std.proofs.Common.{◌≡◌, refl, subst, ℕ, List, Option, Some, None, Ok, Err}
 use Rattle.std.specs.Prelude.{IfSome}
-use Rattle.run_answers.specs.Exits.{Spoken}
+use Rattle.run_answers.specs.Exits.{IsSilent, Spoken}
 use Rattle.outside_desk.specs.Causes.{Counts}
 use Rattle.outside_desk.specs.Files.{Files}
 use Rattle.run_output.specs.Evidence.{evidence}
@@ -13,7 +13,7 @@ use Rattle.run_output.specs.Stops.{stop_status, stop_line}
 use Rattle.run_output.specs.declared.answer.Outcome.{Outcome}
 use Rattle.run_output.specs.declared.answer.Outcome.TheVariants.{Solved, Unsolved, Undecided, Stale}
 use Rattle.concretizer.specs.Attempts.{Attempts, Follows, StopsBefore, FailsToPut, FailsToSay}
-use Rattle.concretizer.specs.Headline.{IsDone, IsOutdated, IsSilent, IsUndecided, IsUnsatisfiable, Reports}
+use Rattle.concretizer.specs.Headline.{IsDone, IsOutdated, IsUndecided, IsUnsatisfiable, Reports}
 use Rattle.concretizer.specs.Logs.{IsShownByLogs}
 use Rattle.concretizer.proofs.Ends.{refused}
 use Rattle.concretizer.proofs.Faults.{write_fault, no_memory}

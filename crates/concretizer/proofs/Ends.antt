@@ -1,7 +1,7 @@
 -- How a run that stops is answered.
 use Rattle.std.proofs.Common.{◌≡◌, ℕ, List, Option, Some, None, Result, Ok, Err, subst, inl, inr}
 use Rattle.std.specs.Prelude.{IfSome}
-use Rattle.run_answers.specs.Exits.{IsAnsweredBy, IsRefusalStatus, Spoken}
+use Rattle.run_answers.specs.Exits.{IsAnsweredBy, IsRefusalStatus, Says, Spoken}
 use Rattle.outside_desk.specs.Causes.{Counts, Rose}
 use Rattle.outside_desk.specs.Files.{Files}
 use Rattle.run_output.specs.Task.{Task}
@@ -13,7 +13,7 @@ use Rattle.run_output.specs.Refusals.{status_of, line_of_refusal}
 use Rattle.run_output.specs.Senses.{Sense}
 use Rattle.run_output.specs.Stops.{stop_status, stop_line}
 use Rattle.concretizer.specs.Attempts.{Attempts, Concludes, StopsAtOnce, FailsToRead, FailsToPut, FailsToSay}
-use Rattle.concretizer.specs.Headline.{IsRefused, IsOfInput, Settles, Reports, ReportsWords, Says}
+use Rattle.concretizer.specs.Headline.{IsRefused, IsOfInput, Settles, Reports, ReportsWords}
 use Rattle.concretizer.specs.Logs.{AreStill}
 use Rattle.run_output.specs.declared.answer.Outcome.{Outcome}
 use Rattle.run_output.specs.Refusal.{Refusal}
@@ -27,7 +27,8 @@ use Rattle.run_output.specs.Stop.TheVariants.{Usage, Read, Write}
 
 -- words name one problem at most, or are due one refusal
 abbrev pub PosesOnce : Type 0
-PosesOnce = (files : Files) (words : List (List ℕ)) (a b : Result Task Refusal) → Poses log_verdict files words a → Poses log_verdict files words b → a ≡ b
+PosesOnce = (files : Files) (words : List (List ℕ)) (a b : Result Task Refusal) → Poses log_verdict files words a
+    → Poses log_verdict files words b → a ≡ b
 
 -- ---- words that are no command
 
@@ -52,7 +53,8 @@ report_said status line said faults result (inl (is, line_said, still)) refuses 
 report_said status line said faults result (inr (inl (is, front, rose))) refuses = absurd (rw is at refuses)
 report_said status line said faults result (inr (inr (is, silent))) refuses = absurd (rw is at refuses)
 
-refused_here : (sense : Sense) (files : Files) (words : List (List ℕ)) (stop : Stop) (after : Option Files) (out err : Spoken) (result : Status)
+refused_here : (sense : Sense) (files : Files) (words : List (List ℕ)) (stop : Stop) (after : Option Files) (out err : Spoken)
+    (result : Status)
     → Attempts sense files words after out.0 out.1 (Err stop) → Said (stop_status stop) (stop_line stop) err result → IsRefusalStatus result
     → IsRefused sense files words result after out err
 refused_here sense files words Usage after out err result left (is, said) refuses = absurd (rw is at refuses)
@@ -65,7 +67,8 @@ refused_here sense files words (Write writes.Output) after out err result left (
 refused_here sense files words (Write writes.NoMemory) after out err result left (is, said) refuses = absurd (rw is at refuses)
 
 -- the refusal of an attempt that stopped so
-pub refused : (sense : Sense) (before : Option Files) (words : List (List ℕ)) (stop : Stop) (after : Option Files) (out err : Spoken) (faults : ℕ × ℕ)
+pub refused : (sense : Sense) (before : Option Files) (words : List (List ℕ)) (stop : Stop) (after : Option Files) (out err : Spoken)
+    (faults : ℕ × ℕ)
     (result : Status)
     → IfSome before (λ files. Attempts sense files words after out.0 out.1 (Err stop))
     → Reports (stop_status stop) (stop_line stop) err faults result → IsRefusalStatus result
@@ -172,7 +175,8 @@ due_here : PosesOnce → (files : Files) (words : List (List ℕ)) (stop : Stop)
     (reads puts says errs : ℕ × ℕ) (result : Status)
     → Attempts evidence files words after out.0 out.1 (Err stop) → AreCounted stop reads puts says
     → Reports (stop_status stop) (stop_line stop) err errs result
-    → (refusal : Refusal) → Poses log_verdict files words (Err refusal) → AreStill reads puts says errs → IsAnsweredBy (status_of refusal) result
+    → (refusal : Refusal) → Poses log_verdict files words (Err refusal) → AreStill reads puts says errs
+    → IsAnsweredBy (status_of refusal) result
 due_here laws files words Usage after out err reads puts says errs result left counts reports refusal poses still =
     not_refused words poses.0 poses.1 left.0
 due_here laws files words (Read (Refused given)) after out err reads puts says errs result left counts reports refusal poses still =
@@ -214,7 +218,8 @@ written laws (Some files) words outcome after out reads puts says errs result le
 pub refusals_due : NonePosed → (before : Option Files) (words : List (List ℕ)) (reads puts says errs : ℕ × ℕ) (result : Status)
     → IfSome before (λ files. (refusal : Refusal) → Poses log_verdict files words (Err refusal) → AreStill reads puts says errs
     → IsAnsweredBy (status_of refusal) result)
-    → IfSome before (λ files. (refusal : Refusal) → Poses no_verdict files words (Err refusal) → ¬ Rose reads.0 reads.1 → ¬ Rose puts.0 puts.1
+    → IfSome before (λ files. (refusal : Refusal) → Poses no_verdict files words (Err refusal) → ¬ Rose reads.0 reads.1
+    → ¬ Rose puts.0 puts.1
     → ¬ Rose says.0 says.1 → ¬ Rose errs.0 errs.1 → IsAnsweredBy (status_of refusal) result)
 refusals_due laws None words reads puts says errs result answered = tt
 refusals_due laws (Some files) words reads puts says errs result answered = λ refusal poses read put said late.

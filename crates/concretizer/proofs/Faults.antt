@@ -1,7 +1,7 @@
 -- Faults of devices, where a run stops.
 use Rattle.std.proofs.Common.{◌≡◌, refl, sym, ◌∙◌, ℕ, List, Option, Some, None, Err, inl, inr, ◌⊎◌}
 use Rattle.std.specs.Prelude.{IfSome}
-use Rattle.run_answers.specs.Exits.{Spoken}
+use Rattle.run_answers.specs.Exits.{IsSilent, Says, Spoken}
 use Rattle.outside_desk.specs.Causes.{Counts, Rose}
 use Rattle.outside_desk.specs.Files.{Files}
 use Rattle.run_output.specs.Refusals.{status_of}
@@ -14,15 +14,17 @@ use Rattle.run_output.specs.WriteStop.TheVariants as writes
 use Rattle.run_output.specs.Stop.{Stop}
 use Rattle.run_output.specs.Stop.TheVariants.{Usage, Read, Write}
 use Rattle.concretizer.specs.Attempts.{Attempts, Follows, StopsBefore, FailsToRead, FailsToPut, FailsToSay}
-use Rattle.concretizer.specs.Headline.{IsOutOfMemory, IsOutputFault, IsPutFault, IsReadFault, IsReportFault, IsSilent, IsStopped, LeavesAll, LeavesPut, Reports, Says}
+use Rattle.concretizer.specs.Headline.{IsOutOfMemory, IsOutputFault, IsPutFault, IsReadFault, IsReportFault, IsStopped, LeavesAll, LeavesPut, Reports}
 use Rattle.concretizer.proofs.Reported.{by_report, unlike}
 
 -- ---- ReadFault
 
+-- ReadFault is answered only where the reading failed, and its path was said
 pub read_fault : (words : List (List ℕ)) (stop : Stop) (reads : ℕ × ℕ) (files : Option Files × Option Files) (out err : Spoken) (errs : ℕ
     × ℕ) (result : Status)
     → Reports (stop_status stop) (stop_line stop) err errs result → Follows files.0 words (Err stop)
-    → (FailsToRead (Err stop) → files.1 ≡ files.0) → (StopsBefore (Err stop) → out.1 ≡ out.0) → Counts reads.0 reads.1 (FailsToRead (Err stop))
+    → (FailsToRead (Err stop) → files.1 ≡ files.0) → (StopsBefore (Err stop) → out.1 ≡ out.0)
+    → Counts reads.0 reads.1 (FailsToRead (Err stop))
     → result ≡ statuses.ReadFault → IsReadFault words reads files out err
 read_fault words Usage reads files out err errs result reports follows unread unsaid counts is =
     by_report _ _ err errs result reports (λ same says. absurd (let no : statuses.Usage ≡ statuses.ReadFault = sym same ∙ is in cc))
@@ -96,31 +98,37 @@ stopped sense words stop says files out follows outcome unsaid said =
     record { stop = stop; follows = follows; left = outcome; output = silent_or_rose stop says out unsaid said }
 
 -- what a report leaves that failed, of a stop whose status is not WriteFault
-late : (sense : Sense) (words : List (List ℕ)) (puts says : ℕ × ℕ) (files : Option Files × Option Files) (out err : Spoken) (errs : ℕ × ℕ) (result : Status)
+late : (sense : Sense) (words : List (List ℕ)) (puts says : ℕ × ℕ) (files : Option Files × Option Files) (out err : Spoken) (errs : ℕ × ℕ)
+    (result : Status)
     → (stopped : IsStopped sense words files says out) → (stop_status stopped.stop ≡ statuses.WriteFault → ⊥)
     → Reports (stop_status stopped.stop) (stop_line stopped.stop) err errs result → result ≡ statuses.WriteFault
-    → IsPutFault sense words files puts out err ⊎ (IsOutputFault sense words files says out err ⊎ IsReportFault sense words files says errs out err)
+    → IsPutFault sense words files puts out err
+    ⊎ (IsOutputFault sense words files says out err ⊎ IsReportFault sense words files says errs out err)
 late sense words puts says files out err errs result stopped other reports is =
     by_report _ _ err errs result reports (λ same told. absurd (other (sym same ∙ is)))
     (λ same failed. inr (inr (record { stopped = stopped; rose = failed.1; errors = failed.0 })))
     (λ none silent. absurd (let no : statuses.NoMemory ≡ statuses.WriteFault = sym none ∙ is in cc))
 
 -- a put or a sink failed
-pub write_fault : (sense : Sense) (words : List (List ℕ)) (stop : Stop) (puts says : ℕ × ℕ) (files : Option Files × Option Files) (out err : Spoken)
+pub write_fault : (sense : Sense) (words : List (List ℕ)) (stop : Stop) (puts says : ℕ × ℕ) (files : Option Files × Option Files)
+    (out err : Spoken)
     (errs : ℕ × ℕ) (result : Status)
     → Reports (stop_status stop) (stop_line stop) err errs result → Follows files.0 words (Err stop)
     → IfSome files.0 (λ before. Attempts sense before words files.1 out.0 out.1 (Err stop))
     → (StopsBefore (Err stop) → out.1 ≡ out.0) → Counts puts.0 puts.1 (FailsToPut (Err stop)) → Counts says.0 says.1 (FailsToSay (Err stop))
     → result ≡ statuses.WriteFault
-    → IsPutFault sense words files puts out err ⊎ (IsOutputFault sense words files says out err ⊎ IsReportFault sense words files says errs out err)
+    → IsPutFault sense words files puts out err
+    ⊎ (IsOutputFault sense words files says out err ⊎ IsReportFault sense words files says errs out err)
 write_fault sense words Usage puts says files out err errs result reports follows outcome unsaid put said is =
     late sense words puts says files out err errs result (stopped sense words Usage says files out follows outcome unsaid said)
     (λ no. let same : statuses.Usage ≡ statuses.WriteFault = no in cc) reports is
 write_fault sense words (Read (Refused refusal)) puts says files out err errs result reports follows outcome unsaid put said is =
-    late sense words puts says files out err errs result (stopped sense words (Read (Refused refusal)) says files out follows outcome unsaid said)
+    late sense words puts says files out err errs result
+    (stopped sense words (Read (Refused refusal)) says files out follows outcome unsaid said)
     (λ no. unlike refusal (status_of refusal) statuses.WriteFault refl no (λ h. h)) reports is
 write_fault sense words (Read (Fault path)) puts says files out err errs result reports follows outcome unsaid put said is =
-    late sense words puts says files out err errs result (stopped sense words (Read (Fault path)) says files out follows outcome unsaid said)
+    late sense words puts says files out err errs result
+    (stopped sense words (Read (Fault path)) says files out follows outcome unsaid said)
     (λ no. let same : statuses.ReadFault ≡ statuses.WriteFault = no in cc) reports is
 write_fault sense words (Read NoMemory) puts says files out err errs result reports follows outcome unsaid put said is =
     late sense words puts says files out err errs result (stopped sense words (Read NoMemory) says files out follows outcome unsaid said)
@@ -157,7 +165,8 @@ write_fault sense words (Write writes.Output) puts says files out err errs resul
     })))
     (λ none silent. absurd (let no : statuses.NoMemory ≡ statuses.WriteFault = sym none ∙ is in cc))
 write_fault sense words (Write writes.NoMemory) puts says files out err errs result reports follows outcome unsaid put said is =
-    late sense words puts says files out err errs result (stopped sense words (Write writes.NoMemory) says files out follows outcome unsaid said)
+    late sense words puts says files out err errs result
+    (stopped sense words (Write writes.NoMemory) says files out follows outcome unsaid said)
     (λ no. let same : statuses.NoMemory ≡ statuses.WriteFault = no in cc) reports is
 
 -- ---- NoMemory
@@ -172,7 +181,8 @@ no_memory_said (Write writes.Output) err is says = absurd (let no : statuses.Wri
 no_memory_said (Write writes.NoMemory) err is says = says
 
 -- memory ran out
-pub no_memory : (sense : Sense) (words : List (List ℕ)) (stop : Stop) (says : ℕ × ℕ) (files : Option Files × Option Files) (out err : Spoken)
+pub no_memory : (sense : Sense) (words : List (List ℕ)) (stop : Stop) (says : ℕ × ℕ) (files : Option Files × Option Files)
+    (out err : Spoken)
     (errs : ℕ × ℕ) (result : Status)
     → Reports (stop_status stop) (stop_line stop) err errs result → Follows files.0 words (Err stop)
     → IfSome files.0 (λ before. Attempts sense before words files.1 out.0 out.1 (Err stop))

@@ -53,7 +53,8 @@ here words files after (inr put) =
     let (command, named, posed) = put.read in
     let of = posed_of files command put.task posed in
     let roots = posed_roots files command put.task posed in
-    let kept = by_paths (λ l c. KeepsWhole evidence l c put.task (Some files) after) (lock_path words) (cert_path words) command.lock command.cert
+    let kept = by_paths (λ l c. KeepsWhole evidence l c put.task (Some files) after) (lock_path words) (cert_path words)
+    command.lock command.cert
     (ap lock_of_command named) (ap cert_of_command named) put.held in
     fewer words command put.task files after named of roots (keeps command.lock command.cert put.task (Some files) after (inr kept))
 

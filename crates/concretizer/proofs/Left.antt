@@ -17,7 +17,7 @@ use Rattle.run_output.specs.Stop.TheVariants.{Write}
 use Rattle.run_output.specs.Task.{Task}
 use Rattle.run_output.specs.Task.TheVariants as tasks
 use Rattle.run_output.specs.Tasks.{HasRoots, Named, IsOf}
-use Rattle.run_output.specs.Problems.{Problem, alone, apart}
+use Rattle.run_output.specs.Problems.{Problem, alone, each_alone}
 use Rattle.run_output.specs.Each.{IsHalfFrom}
 use Rattle.run_output.specs.Places.{IsOfRoots, cert_at, lock_at}
 use Rattle.run_output.specs.Words.{Command, cert_of_command, command_of, is_dash_path, lock_of_command, lock_path, cert_path}
@@ -30,14 +30,16 @@ use Rattle.concretizer.specs.Attempts.{Attempts, Follows, StopsBefore}
 use Rattle.concretizer.specs.Headline.{Keeps}
 
 -- the stop that was handed on
-pub write_carried : (stop : WriteStop) (result : Result Outcome Stop) → IsErrAnd result (λ given. given ≡ Write stop) → result ≡ Err (Write stop)
+pub write_carried : (stop : WriteStop) (result : Result Outcome Stop) → IsErrAnd result (λ given. given ≡ Write stop)
+    → result ≡ Err (Write stop)
 write_carried stop (Ok outcome) h = absurd h
 write_carried stop (Err given) h = ap Err h
 
 -- the same, by paths that are those of the words
 pub by_paths : (A : List ℕ → List ℕ → Type 0) (lock cert lock_of cert_of : List ℕ) → lock ≡ lock_of → cert ≡ cert_of → A lock cert
     → A lock_of cert_of
-by_paths A lock cert lock_of cert_of at certified left = subst (λ (q : List ℕ). A q cert_of) at (subst (λ (q : List ℕ). A lock q) certified left)
+by_paths A lock cert lock_of cert_of at certified left =
+    subst (λ (q : List ℕ). A q cert_of) at (subst (λ (q : List ℕ). A lock q) certified left)
 
 -- a writing that stopped, of a task that was read
 pub stopped : (words : List (List ℕ)) (command : Command) (lock cert : List ℕ) (task : Task) (stop : WriteStop)
@@ -74,7 +76,8 @@ answered words command lock cert task outcome (Some files) between after said_be
 
 -- what any end of writing keeps
 pub held : (words : List (List ℕ)) (command : Command) (lock cert : List ℕ) (task : Task) (before between after : Option Files)
-    → command_of words ≡ Some command → IfSome before (λ files. Gives {T = Task} (Ok task) (Named log_verdict files command)) → between ≡ before
+    → command_of words ≡ Some command → IfSome before (λ files. Gives {T = Task} (Ok task) (Named log_verdict files command))
+    → between ≡ before
     → lock ≡ lock_path words → cert ≡ cert_path words → (after ≡ between) ⊎ KeepsWhole evidence lock cert task between after
     → IfSome before (λ files. Keeps evidence files words after)
 held words command lock cert task None between after ordered read same at certified kept = tt
@@ -101,26 +104,32 @@ put_from dir count root (problem ∷ more) [] at before after all half = absurd 
 put_from dir count root (problem ∷ more) (answer ∷ others) at before after all (inl half) = record {
   root = root;
   within = omega (arith, all);
-  is_path = ⊎_elim (λ (same : at ≡ lock_at dir root). inl same) (λ (pair : (at ≡ cert_at dir root) × (is_dash_path (cert_at dir root) ≡ false)). inr pair.0)
+  is_path = ⊎_elim (λ (same : at ≡ lock_at dir root). inl same)
+      (λ (pair : (at ≡ cert_at dir root) × (is_dash_path (cert_at dir root) ≡ false)). inr pair.0)
       (put_at (lock_at dir root) (cert_at dir root) problem answer at before after half);
 }
 put_from dir count root (problem ∷ more) (answer ∷ others) at before after all (inr half) =
     put_from dir count (root + 1) more others at (files_with (lock_at dir root) (cert_at dir root) problem answer before) after
     (omega (arith, all)) half
 
+-- a graph alone is found for `concretize`
 pub is_concretize : (work : Work) (input : Input) → IsOf work (tasks.Solve input) → work ≡ works.Concretize
 is_concretize works.Concretize input of = refl
 is_concretize other input of = absurd of
 
+-- the graphs of all roots by themselves are found for `each`
 pub is_each : (work : Work) (input : Input) → IsOf work (tasks.Each input) → work ≡ works.Each
 is_each works.Each input of = refl
 is_each other input of = absurd of
 
-follows_here : (told : Option Files) (words : List (List ℕ)) (lock cert : List ℕ) (task : Task) (stop : WriteStop) (before after : Option Files)
+follows_here : (told : Option Files) (words : List (List ℕ)) (lock cert : List ℕ) (task : Task) (stop : WriteStop)
+    (before after : Option Files)
     (said_before said_after : Option (List ℕ))
-    → (asked : IsAsked words) → IsOf asked.command.work task → HasRoots asked.command.spec task → lock ≡ lock_path words → cert ≡ cert_path words
+    → (asked : IsAsked words) → IsOf asked.command.work task → HasRoots asked.command.spec task → lock ≡ lock_path words
+    → cert ≡ cert_path words
     → Writes evidence lock cert task before after said_before said_after (Err stop) → Follows told words (Err (Write stop))
-follows_here told words lock cert (tasks.Solve input) (Put at) before after said_before said_after asked work roots is_lock is_cert (left, unsaid) =
+follows_here told words lock cert (tasks.Solve input) (Put at) before after said_before said_after asked work roots is_lock is_cert
+    (left, unsaid) =
     let same = is_concretize asked.command.work input work in
     let command = asked.command in
     let at_lock : lock ≡ command.lock = is_lock ∙ ap lock_of_command asked.named in
@@ -134,7 +143,8 @@ follows_here told words lock cert (tasks.Solve input) (Put at) before after said
             (by_paths (λ l c. (at ≡ l) ⊎ ((at ≡ c) × (is_dash_path c ≡ false))) lock cert command.lock command.cert at_lock at_cert path);
       },
     )
-follows_here told words lock cert (tasks.Each input) (Put at) before after said_before said_after asked work roots is_lock is_cert (left, unsaid) =
+follows_here told words lock cert (tasks.Each input) (Put at) before after said_before said_after asked work roots is_lock is_cert
+    (left, unsaid) =
     let same = is_each asked.command.work input work in
     let command = asked.command in
     let at_lock : lock ≡ command.lock = is_lock ∙ ap lock_of_command asked.named in (
@@ -146,7 +156,7 @@ follows_here told words lock cert (tasks.Each input) (Put at) before after said_
           roots = input.problem.roots;
           read = roots;
           inside = subst (λ (d : List ℕ). IsOfRoots d (length input.problem.roots) at) at_lock
-              (put_from lock (length input.problem.roots) 0 (apart input.problem) left.found at before after
+              (put_from lock (length input.problem.roots) 0 (each_alone input.problem) left.found at before after
               (omega (arith, length-map {B = Problem} input.problem.roots (alone input.problem))) left.half);
         });
       },
@@ -156,7 +166,8 @@ follows_here told words lock cert task Output before after said_before said_afte
 follows_here told words lock cert task NoMemory before after said_before said_after asked work roots is_lock is_cert left = tt
 
 -- a writing that stopped, by the words
-pub follows : (told : Option Files) (words : List (List ℕ)) (lock cert : List ℕ) (task : Task) (stop : WriteStop) (result : Result Outcome Stop)
+pub follows : (told : Option Files) (words : List (List ℕ)) (lock cert : List ℕ) (task : Task) (stop : WriteStop)
+    (result : Result Outcome Stop)
     (before after : Option Files) (said_before said_after : Option (List ℕ))
     → IsErrAnd result (λ given. given ≡ Write stop) → (asked : IsAsked words) → IsOf asked.command.work task
     → HasRoots asked.command.spec task → lock ≡ lock_path words → cert ≡ cert_path words
@@ -167,7 +178,8 @@ follows told words lock cert task stop result before after said_before said_afte
 
 -- what is said by a writing that stopped before
 quiet : (lock cert : List ℕ) (task : Task) (stop : WriteStop) (before after : Option Files) (said_before said_after : Option (List ℕ))
-    → Writes evidence lock cert task before after said_before said_after (Err stop) → StopsBefore (Err (Write stop)) → said_after ≡ said_before
+    → Writes evidence lock cert task before after said_before said_after (Err stop) → StopsBefore (Err (Write stop))
+    → said_after ≡ said_before
 quiet lock cert task (Put at) before after said_before said_after left stops = left.1
 quiet lock cert task Output before after said_before said_after left stops = absurd stops
 quiet lock cert task NoMemory before after said_before said_after left stops = left

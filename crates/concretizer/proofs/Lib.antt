@@ -8,3 +8,5 @@ pub mod Meaning
 pub mod Reported
 pub mod Shown
 pub mod Stages
+pub mod Told
+pub mod Unread

@@ -27,7 +27,8 @@ use Rattle.concretizer.proofs.Reported.{refuses}
 
 module _ (words : List (List ℕ)) (command : Command) (lock cert : List ℕ) (task : Task) (kept : List Line) where
   -- of a writing that answered
-  pub answered_log : (outcome : Outcome) (before between after : Option Files) (said more : Option (List ℕ)) → command_of words ≡ Some command
+  pub answered_log : (outcome : Outcome) (before between after : Option Files) (said more : Option (List ℕ))
+      → command_of words ≡ Some command
       → IfSome before (λ files. Gives {T = Task} (Ok task) (Named log_verdict files command)) → between ≡ before
       → lock ≡ lock_path words → cert ≡ cert_path words → KeepsAny lock cert task between after said more kept (Ok outcome)
       → IfSome before (λ files. AttemptKeeps files words after (said, more) kept (Ok outcome))
@@ -35,15 +36,18 @@ module _ (words : List (List ℕ)) (command : Command) (lock cert : List ℕ) (t
   answered_log outcome (Some files) between after said more ordered read same at certified keeps = record {
     task = task;
     read = (command, ordered, read);
-    keeps = by_paths (λ l c. KeepsLog l c task outcome (Some files) after said more kept) lock cert (lock_path words) (cert_path words) at certified
+    keeps = by_paths (λ l c. KeepsLog l c task outcome (Some files) after said more kept) lock cert (lock_path words)
+        (cert_path words) at certified
         (subst (λ (m : Option Files). KeepsLog lock cert task outcome m after said more kept) same keeps);
   }
 
-  found : (files : Files) → command_of words ≡ Some command → Gives {T = Task} (Ok task) (Named log_verdict files command) → HoldsLog task kept
+  found : (files : Files) → command_of words ≡ Some command → Gives {T = Task} (Ok task) (Named log_verdict files command)
+      → HoldsLog task kept
       → MayKeep files words kept
   found files ordered read holds = inr (record { task = task; read = (command, ordered, read); holds = holds })
 
-  stopped_here : (stop : WriteStop) (files : Files) (between after : Option Files) (said more : Option (List ℕ)) → command_of words ≡ Some command
+  stopped_here : (stop : WriteStop) (files : Files) (between after : Option Files) (said more : Option (List ℕ))
+      → command_of words ≡ Some command
       → Gives {T = Task} (Ok task) (Named log_verdict files command) → KeepsAny lock cert task between after said more kept (Err stop)
       → MayKeep files words kept
   stopped_here (Put at) files between after said more ordered read keeps = found files ordered read keeps
@@ -93,7 +97,8 @@ module _ (files : Files) (words : List (List ℕ)) (after : Option Files) (out :
 
   here : (stop : Stop) (err : Spoken) (errs : ℕ × ℕ) (result : Status) → AttemptKeeps files words after out kept (Err stop)
       → Reports (stop_status stop) (stop_line stop) err errs result → KeepsFor result files words after out kept
-  here stop err errs result keeps (inl (is, said, steady)) = subst (λ (s : Status). KeepsFor s files words after out kept) (sym is) (of_stop stop keeps)
+  here stop err errs result keeps (inl (is, said, steady)) =
+      subst (λ (s : Status). KeepsFor s files words after out kept) (sym is) (of_stop stop keeps)
   here stop err errs result keeps (inr (inl (is, front, late))) = rw is (may_keep stop keeps)
   here stop err errs result keeps (inr (inr (is, silent))) = rw is (may_keep stop keeps)
 
@@ -102,4 +107,5 @@ pub keeps_for : (before : Option Files) (words : List (List ℕ)) (after : Optio
     (err : Spoken) (errs : ℕ × ℕ) (result : Status) → IfSome before (λ files. AttemptKeeps files words after out kept (Err stop))
     → Reports (stop_status stop) (stop_line stop) err errs result → IfSome before (λ files. KeepsFor result files words after out kept)
 keeps_for None words after out kept stop err errs result keeps reports = tt
-keeps_for (Some files) words after out kept stop err errs result keeps reports = here files words after out kept stop err errs result keeps reports
+keeps_for (Some files) words after out kept stop err errs result keeps reports =
+    here files words after out kept stop err errs result keeps reports

@@ -1,6 +1,6 @@
 -- What is reported of a run that stops, by its status.
 use Rattle.std.proofs.Common.{◌≡◌, sym, subst, ◌∙◌, ℕ, List, Option, None, Err, inl, inr, ◌⊎◌}
-use Rattle.run_answers.specs.Exits.{IsRefusalStatus, Spoken}
+use Rattle.run_answers.specs.Exits.{IsRefusalStatus, IsSilent, Says, SaysFront, Spoken}
 use Rattle.outside_desk.specs.Causes.{Rose}
 use Rattle.outside_desk.specs.Files.{Files}
 use Rattle.run_output.specs.LockFault.{LockFault}
@@ -17,7 +17,7 @@ use Rattle.run_output.specs.WriteStop.TheVariants as writes
 use Rattle.run_output.specs.Stop.{Stop}
 use Rattle.run_output.specs.Stop.TheVariants.{Usage, Read, Write}
 use Rattle.concretizer.specs.Attempts.{Follows}
-use Rattle.concretizer.specs.Headline.{IsSilent, Reports, Says, SaysFront}
+use Rattle.concretizer.specs.Headline.{Reports}
 
 -- ---- the status of a refusal
 
@@ -62,6 +62,7 @@ unlike refusal result status is other not = not (subst IsRefusalStatus (sym is �
 
 -- ---- a report, by its three cases
 
+-- what follows from each of the three follows from any report
 pub by_report : {A : Type 0} (status : Status) (line : List ℕ) (said : Spoken) (errs : ℕ × ℕ) (result : Status)
     → Reports status line said errs result
     → (result ≡ status → Says said line → A) → (result ≡ statuses.WriteFault → SaysFront said line × Rose errs.0 errs.1 → A)
@@ -129,7 +130,8 @@ no_other statuses.ReadFault refuses = absurd refuses
 no_other statuses.WriteFault refuses = absurd refuses
 no_other statuses.NoMemory refuses = absurd refuses
 
-stops_by_words : (told : Option Files) (words : List (List ℕ)) (stop : Stop) → Follows told words (Err stop) → (command_of words ≡ None) ⊎ IsOther (stop_status stop)
+stops_by_words : (told : Option Files) (words : List (List ℕ)) (stop : Stop) → Follows told words (Err stop) → (command_of words ≡ None)
+    ⊎ IsOther (stop_status stop)
 stops_by_words told words Usage follows = inl follows
 stops_by_words told words (Read (Refused refusal)) follows = inr (no_other (status_of refusal) (refuses refusal))
 stops_by_words told words (Read (Fault path)) follows = inr tt

@@ -29,8 +29,8 @@ use Rattle.concretizer.specs.Headline.{HasOutdone, HasShown, ShowsBy}
 
 no_explanation : (explanation : Explanation) → Stale ≡ explanation_outcome explanation → ⊥
 no_explanation explanations.Satisfiable e = let no : Stale ≡ Solved = e in cc
-no_explanation (explanations.Unmet demands) e = let no : Stale ≡ Unsolved = e in cc
-no_explanation explanations.Undecided e = let no : Stale ≡ Undecided = e in cc
+no_explanation (explanations.Unmet demands log) e = let no : Stale ≡ Unsolved = e in cc
+no_explanation (explanations.Undecided log) e = let no : Stale ≡ Undecided = e in cc
 
 no_least : (explanation : LeastExplanation) → Stale ≡ least_outcome explanation → ⊥
 no_least least.Satisfiable e = let no : Stale ≡ Solved = e in cc

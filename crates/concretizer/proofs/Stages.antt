@@ -47,13 +47,16 @@ not_begun words before said (Read (Fault path)) never = absurd never
 not_begun words before said (Read NoMemory) spent = memory_ended words before said
 not_begun words before said (Write stop) never = absurd never
 
-pub follows_words : (told : Option Files) (words : List (List ℕ)) (stop : Stop) → GivesCommand words (Err stop) → Follows told words (Err stop)
+-- nothing had to come before it
+pub follows_words : (told : Option Files) (words : List (List ℕ)) (stop : Stop) → GivesCommand words (Err stop)
+    → Follows told words (Err stop)
 follows_words told words Usage none = none
 follows_words told words (Read (Refused refusal)) never = absurd never
 follows_words told words (Read (Fault path)) never = absurd never
 follows_words told words (Read NoMemory) spent = tt
 follows_words told words (Write stop) never = absurd never
 
+-- it stops before anything was read
 pub stops_at_once : (words : List (List ℕ)) (stop : Stop) → GivesCommand words (Err stop) → StopsAtOnce (Err stop)
 stops_at_once words Usage none = tt
 stops_at_once words (Read (Refused refusal)) never = absurd never
@@ -62,7 +65,8 @@ stops_at_once words (Read NoMemory) spent = tt
 stops_at_once words (Write stop) never = absurd never
 
 -- no log is kept then
-pub none_kept : (words : List (List ℕ)) (before : Option Files) (out : Spoken) (kept : List Line) (stop : Stop) → GivesCommand words (Err stop)
+pub none_kept : (words : List (List ℕ)) (before : Option Files) (out : Spoken) (kept : List Line) (stop : Stop)
+    → GivesCommand words (Err stop)
     → kept ≡ [] → IfSome before (λ files. AttemptKeeps files words before out kept (Err stop))
 none_kept words None out kept stop gives empty = tt
 none_kept words (Some files) out kept Usage gives empty = empty
@@ -77,11 +81,13 @@ not_read words (Read (Fault path)) never fails = never
 not_read words (Read NoMemory) spent fails = fails
 not_read words (Write stop) never fails = never
 
+-- no put failed
 pub not_put : (words : List (List ℕ)) (stop : Stop) → GivesCommand words (Err stop) → FailsToPut (Err stop) → ⊥
 not_put words Usage none fails = fails
 not_put words (Read stop) gives fails = fails
 not_put words (Write stop) never fails = never
 
+-- no sink failed
 pub not_said : (words : List (List ℕ)) (stop : Stop) → GivesCommand words (Err stop) → FailsToSay (Err stop) → ⊥
 not_said words Usage none fails = fails
 not_said words (Read stop) gives fails = fails

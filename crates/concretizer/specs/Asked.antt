@@ -2,7 +2,8 @@
 use Rattle.std.specs.Prelude.{◌≡◌, ◌⊎◌, ℕ, false, List, Option, Some, IsSomeAnd}
 use Rattle.std.specs.FinMap.{get}
 use Rattle.outside_desk.specs.Files.{Files}
-use Rattle.run_output.specs.Tasks.{HasSpecs, IsTaskPath}
+use Rattle.run_output.specs.Looks.{IsTaskPath}
+use Rattle.run_output.specs.Tasks.{HasSpecs}
 use Rattle.run_output.specs.Places.{IsRootFile}
 use Rattle.run_output.specs.Words.{Command, command_of, is_dash_path}
 use Rattle.run_output.specs.Work.{Work}
@@ -42,8 +43,8 @@ abbrev pub ChangesOnly : List (List ℕ) → Files → Option Files → Type 0
 ChangesOnly words before after =
     IsSomeAnd after (λ files. (path : List ℕ) → ¬ IsPutPath words path → get files path ≡ get before path)
 
--- the words are a command that reads a file or folder at the path: of recipes those that the folder of packages names, where
--- the desk tells its files
+-- the words are a command that reads a file or folder at the path; where the desk tells its files, of recipes those that the folder of
+-- packages names, and each path only behind what is read before it: all of that gave something, and no refusal is due there
 pub record IsRead (told : Option Files) (words : List (List ℕ)) (path : List ℕ) : Type 0 where
   pub command : Command
   pub named : command_of words ≡ Some command

@@ -4,9 +4,9 @@
 -- `files` are the files at entry of a desk that tells them, `words` the words of the command line,
 -- `after` the files at the return, and `out` and `err` what the two sinks tell before and after.
 use Rattle.std.specs.Prelude.{◌≡◌, ◌⊎◌, ℕ, List, Option, Some, Ok, Err, IfSome}
-use Rattle.run_answers.specs.Exits.{Spoken}
+use Rattle.run_answers.specs.Exits.{IsSilent, Says, SaysFront, Spoken}
 use Rattle.outside_desk.specs.Causes.{Rose}
-use Rattle.outside_desk.specs.Files.{Files, and_said, SaysPart}
+use Rattle.outside_desk.specs.Files.{Files}
 use Rattle.run_output.specs.Senses.{Sense}
 use Rattle.run_output.specs.Shown.{IsOutdone, IsShown}
 use Rattle.run_output.specs.Words.{Command, command_of, lock_path, cert_path}
@@ -23,18 +23,6 @@ use Rattle.run_output.specs.Status.{Status}
 use Rattle.run_output.specs.Status.TheVariants as statuses
 use Rattle.concretizer.specs.Asked.{IsAsked, IsLocking, IsRead, IsPutPath}
 use Rattle.concretizer.specs.Attempts.{Attempts, Follows}
-
--- nothing was said
-abbrev pub IsSilent : Spoken → Type 0
-IsSilent said = said.1 ≡ said.0
-
--- this was said, and nothing else
-abbrev pub Says : Spoken → List ℕ → Type 0
-Says said line = said.1 ≡ and_said said.0 line
-
--- a front of this was said, and nothing behind it
-abbrev pub SaysFront : Spoken → List ℕ → Type 0
-SaysFront said line = SaysPart said.0 said.1 line
 
 -- Done, by `concretize` (`IsSolved` in `run_output`): LOCK holds the lock file of a graph that is well-formed and optimal
 -- for the problem that was read, CERT, unless it is `-`, the text of a log (as evidence, a certificate of its costs), every
@@ -99,7 +87,8 @@ pub record IsUndecided (sense : Sense) (files : Files) (words : List (List ℕ))
   pub errors : IsSilent err
 
 -- BadInput, TooLarge and Refused: reading refuses, in its order; no file changed, and the refusal was said
-pub record IsRefused (sense : Sense) (files : Files) (words : List (List ℕ)) (answer : Status) (after : Option Files) (out err : Spoken) : Type 0 where
+pub record IsRefused (sense : Sense) (files : Files) (words : List (List ℕ)) (answer : Status) (after : Option Files)
+    (out err : Spoken) : Type 0 where
   pub refusal : Refusal
   pub read : Poses sense.verdicts files words (Err refusal)
   pub status : answer ≡ status_of refusal
@@ -108,8 +97,8 @@ pub record IsRefused (sense : Sense) (files : Files) (words : List (List ℕ)) (
   pub errors : Says err (line_of_refusal refusal)
 
 -- ReadFault: the desk failed to read the settings, the folder of packages, a recipe that it names, the database, or what the command
--- looks at besides: the lock file (`judge`, `check`, `fresh`, `plan`), the certificate (`check`, `refute`), both of each root (`check_each`); and that
--- was said
+-- looks at besides: the lock file (`judge`, `check`, `fresh`, `plan`), the certificate (`check`, `refute`), both of each root (`check_each`); the
+-- run had come to that path in its order of work (`IsRead`), and that was said
 pub record IsReadFault (words : List (List ℕ)) (faults : ℕ × ℕ) (files : Option Files × Option Files) (out err : Spoken) : Type 0 where
   pub path : List ℕ
   pub read : IsRead files.0 words path
@@ -125,7 +114,8 @@ pub record LeavesPut (sense : Sense) (files : Files) (words : List (List ℕ)) (
   pub half : IsHalfDone sense (lock_path words) (cert_path words) task path (Some files) after
 
 -- WriteFault where the desk failed to put the certificate or the lock file, and that was said, and nothing else
-pub record IsPutFault (sense : Sense) (words : List (List ℕ)) (files : Option Files × Option Files) (faults : ℕ × ℕ) (out err : Spoken) : Type 0 where
+pub record IsPutFault (sense : Sense) (words : List (List ℕ)) (files : Option Files × Option Files) (faults : ℕ × ℕ)
+    (out err : Spoken) : Type 0 where
   pub path : List ℕ
   pub asked : IsLocking words
   pub put : IsPutPath words path
@@ -142,21 +132,24 @@ pub record LeavesAll (sense : Sense) (files : Files) (words : List (List ℕ)) (
   pub left : IsUntold sense (lock_path words) (cert_path words) task (Some files) after out.0 out.1
 
 -- WriteFault where the sink of the answer failed, and that was said
-pub record IsOutputFault (sense : Sense) (words : List (List ℕ)) (files : Option Files × Option Files) (faults : ℕ × ℕ) (out err : Spoken) : Type 0 where
+pub record IsOutputFault (sense : Sense) (words : List (List ℕ)) (files : Option Files × Option Files) (faults : ℕ × ℕ)
+    (out err : Spoken) : Type 0 where
   pub asked : IsAsked words
   pub left : IfSome files.0 (λ before. LeavesAll sense before words files.1 out)
   pub rose : Rose faults.0 faults.1
   pub errors : Says err output_fault_line
 
 -- a run stopped for this cause, which leaves the files and the sink of the answer so; `faults` counts those of that sink
-pub record IsStopped (sense : Sense) (words : List (List ℕ)) (files : Option Files × Option Files) (faults : ℕ × ℕ) (out : Spoken) : Type 0 where
+pub record IsStopped (sense : Sense) (words : List (List ℕ)) (files : Option Files × Option Files) (faults : ℕ × ℕ)
+    (out : Spoken) : Type 0 where
   pub stop : Stop
   pub follows : Follows files.0 words (Err stop)
   pub left : IfSome files.0 (λ before. Attempts sense before words files.1 out.0 out.1 (Err stop))
   pub output : IsSilent out ⊎ Rose faults.0 faults.1
 
 -- WriteFault where the sink of the report failed: a front of the line of why the run stopped was said
-pub record IsReportFault (sense : Sense) (words : List (List ℕ)) (files : Option Files × Option Files) (faults errs : ℕ × ℕ) (out err : Spoken) : Type 0 where
+pub record IsReportFault (sense : Sense) (words : List (List ℕ)) (files : Option Files × Option Files) (faults errs : ℕ × ℕ)
+    (out err : Spoken) : Type 0 where
   pub stopped : IsStopped sense words files faults out
   pub rose : Rose errs.0 errs.1
   pub errors : SaysFront err (stop_line stopped.stop)
@@ -168,7 +161,8 @@ IsWriteFault sense words files puts says errs out err =
     ⊎ (IsOutputFault sense words files says out err ⊎ IsReportFault sense words files says errs out err)
 
 -- NoMemory, which needs no cause: that was said, or nothing
-pub record IsOutOfMemory (sense : Sense) (words : List (List ℕ)) (files : Option Files × Option Files) (faults : ℕ × ℕ) (out err : Spoken) : Type 0 where
+pub record IsOutOfMemory (sense : Sense) (words : List (List ℕ)) (files : Option Files × Option Files) (faults : ℕ × ℕ)
+    (out err : Spoken) : Type 0 where
   pub stopped : IsStopped sense words files faults out
   pub errors : IsSilent err ⊎ Says err no_memory_line
 

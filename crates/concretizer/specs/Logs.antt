@@ -29,7 +29,8 @@ IsShownByLogs statuses.Unsatisfiable words files puts says errs out err =
     IfSome files.0 (λ before. IsUnsatisfiable evidence before words files.1 out err)
 IsShownByLogs statuses.Undecided words files puts says errs out err =
     IfSome files.0 (λ before. IsUndecided evidence before words files.1 out err)
-IsShownByLogs statuses.Stale words files puts says errs out err = IfSome files.0 (λ before. IsOutdated evidence before words files.1 out err)
+IsShownByLogs statuses.Stale words files puts says errs out err =
+    IfSome files.0 (λ before. IsOutdated evidence before words files.1 out err)
 IsShownByLogs statuses.Usage words files puts says errs out err = Unit {0}
 IsShownByLogs statuses.ReadFault words files puts says errs out err = Unit {0}
 IsShownByLogs statuses.WriteFault words files puts says errs out err = IsWriteFault evidence words files puts says errs out err
@@ -58,9 +59,10 @@ pub record IsLogged (words : List (List ℕ)) (files : Option Files × Option Fi
 -- ---- what is kept
 
 -- what is kept of a run that came to this: the log of the answer whose files were put, of `each` that of the first root without a graph,
--- or of the trial; the log that left `reasons`
--- undecided, which spent the budget over the clauses of the demands that were said; of other commands no line
-pub record HasKept (files : Files) (words : List (List ℕ)) (outcome : Outcome) (after : Option Files) (out : Spoken) (kept : List Line) : Type 0 where
+-- or of the trial whose counts were said; the log that what `explain` said rests on: a refutation, or one that spent the budget; the log that
+-- left `reasons` undecided, which spent the budget over the clauses of the demands that were said; of other commands no line
+pub record HasKept (files : Files) (words : List (List ℕ)) (outcome : Outcome) (after : Option Files) (out : Spoken)
+    (kept : List Line) : Type 0 where
   pub task : Task
   pub read : Poses log_verdict files words (Ok task)
   pub keeps : KeepsLog (lock_path words) (cert_path words) task outcome (Some files) after out.0 out.1 kept

@@ -2,6 +2,7 @@
 
 ghost use Rattle.std.specs.Prelude.{◌≡◌, ◌≤◌, [], Some, None, IfOk, IfSome};
 ghost use Rattle.outside_desk.specs.Causes.{Counts};
+ghost use Rattle.outside_desk.specs.Files.{told};
 ghost use Rattle.run_output.specs.Evidence.{evidence};
 ghost use Rattle.run_output.specs.Stops.{stop_status, stop_line};
 ghost use Rattle.run_output.specs.Words.{words_of, command_of};
@@ -44,20 +45,22 @@ fn attempt_by<R: Threads + Sync, D: Desk, O: Sink, P: Progress>(
 ) -> Result<Outcome, Stop>
     requires named { command_of (words_of _words.now) ≡ Some command.now }
     requires empty { kept.old ≡ [] }
-    ensures outcome { IfSome (D.files desk.old)
+    ensures outcome { IfSome (told (D.files desk.old) (D.files desk.new))
         (λ files. Attempts evidence files (words_of _words.now) (D.files desk.new) (O.said out.old)
         (O.said out.new) result) }
-    ensures shown { IfOk result (λ outcome. IfSome (D.files desk.old)
+    ensures shown { IfOk result (λ outcome. IfSome (told (D.files desk.old) (D.files desk.new))
         (λ files. ShowsBy outcome files (words_of _words.now))) }
-    ensures follows { Follows (D.files desk.old) (words_of _words.now) result }
-    ensures unread { FailsToRead result → D.files desk.new ≡ D.files desk.old }
+    ensures follows { Follows (told (D.files desk.old) (D.files desk.new)) (words_of _words.now)
+        result }
+    ensures unread { FailsToRead result
+        → D.files desk.new ≡ told (D.files desk.old) (D.files desk.new) }
     ensures unsaid { StopsBefore result → O.said out.new ≡ O.said out.old }
     ensures steady { Concludes result → (D.faults desk.new ≡ D.faults desk.old)
         × (D.put_faults desk.new ≡ D.put_faults desk.old)
         × (O.faults out.new ≡ O.faults out.old) }
-    ensures held { IfSome (D.files desk.old)
+    ensures held { IfSome (told (D.files desk.old) (D.files desk.new))
         (λ files. Keeps evidence files (words_of _words.now) (D.files desk.new)) }
-    ensures kept { IfSome (D.files desk.old)
+    ensures kept { IfSome (told (D.files desk.old) (D.files desk.new))
         (λ files. AttemptKeeps files (words_of _words.now) (D.files desk.new)
         (O.said out.old, O.said out.new) kept.new result) }
     ensures read { Counts (D.faults desk.old) (D.faults desk.new) (FailsToRead result) }
@@ -92,24 +95,26 @@ pub fn attempt<R: Threads + Sync, D: Desk, O: Sink, P: Progress>(
     kept: &mut Log,
     progress: &mut P,
 ) -> Result<Outcome, Stop>
-    ensures outcome { IfSome (D.files desk.old)
+    ensures outcome { IfSome (told (D.files desk.old) (D.files desk.new))
         (λ files. Attempts evidence files (words_of words.now) (D.files desk.new) (O.said out.old)
         (O.said out.new) result) }
-    ensures shown { IfOk result (λ outcome. IfSome (D.files desk.old)
+    ensures shown { IfOk result (λ outcome. IfSome (told (D.files desk.old) (D.files desk.new))
         (λ files. ShowsBy outcome files (words_of words.now))) }
-    ensures follows { Follows (D.files desk.old) (words_of words.now) result }
+    ensures follows { Follows (told (D.files desk.old) (D.files desk.new)) (words_of words.now)
+        result }
     ensures at_once { command_of (words_of words.now) ≡ None → StopsAtOnce result
         × (D.files desk.new ≡ D.files desk.old) × (O.said out.new ≡ O.said out.old)
         × (D.faults desk.new ≡ D.faults desk.old) × (D.put_faults desk.new ≡ D.put_faults desk.old)
         × (O.faults out.new ≡ O.faults out.old) }
-    ensures unread { FailsToRead result → D.files desk.new ≡ D.files desk.old }
+    ensures unread { FailsToRead result
+        → D.files desk.new ≡ told (D.files desk.old) (D.files desk.new) }
     ensures unsaid { StopsBefore result → O.said out.new ≡ O.said out.old }
     ensures steady { Concludes result → (D.faults desk.new ≡ D.faults desk.old)
         × (D.put_faults desk.new ≡ D.put_faults desk.old)
         × (O.faults out.new ≡ O.faults out.old) }
-    ensures held { IfSome (D.files desk.old)
+    ensures held { IfSome (told (D.files desk.old) (D.files desk.new))
         (λ files. Keeps evidence files (words_of words.now) (D.files desk.new)) }
-    ensures kept { IfSome (D.files desk.old)
+    ensures kept { IfSome (told (D.files desk.old) (D.files desk.new))
         (λ files. AttemptKeeps files (words_of words.now) (D.files desk.new)
         (O.said out.old, O.said out.new) kept.new result) }
     ensures read { Counts (D.faults desk.old) (D.faults desk.new) (FailsToRead result) }

@@ -38,13 +38,16 @@ pub fn run_steady<R: Threads + Sync>(
         (Some err.old, Some err.new) }
     ensures shown { result ≡ Status.Done → HasShown desk.old (words_of words.now) }
     ensures unsatisfiable { result ≡ Status.Unsatisfiable
-        → IsUnsatisfiable meaning desk.old (words_of words.now) (Some desk.new) (Some out.old, Some out.new)
+        → IsUnsatisfiable meaning desk.old (words_of words.now) (Some desk.new)
+        (Some out.old, Some out.new)
         (Some err.old, Some err.new) }
     ensures undecided { result ≡ Status.Undecided
-        → IsUndecided meaning desk.old (words_of words.now) (Some desk.new) (Some out.old, Some out.new)
+        → IsUndecided meaning desk.old (words_of words.now) (Some desk.new)
+        (Some out.old, Some out.new)
         (Some err.old, Some err.new) }
     ensures stale { result ≡ Status.Stale
-        → IsOutdated meaning desk.old (words_of words.now) (Some desk.new) (Some out.old, Some out.new)
+        → IsOutdated meaning desk.old (words_of words.now) (Some desk.new)
+        (Some out.old, Some out.new)
         (Some err.old, Some err.new) }
     ensures outdone { result ≡ Status.Stale → HasOutdone desk.old (words_of words.now) }
     ensures refused { IsRefusalStatus result
@@ -56,7 +59,8 @@ pub fn run_steady<R: Threads + Sync>(
         → Settles result }
     ensures due { (refusal : Refusal) → Poses no_verdict desk.old (words_of words.now) (Err refusal)
         → IsAnsweredBy (status_of refusal) result }
-    ensures logged { IsLogged (words_of words.now) (Some desk.old, Some desk.new) (0, 0) (0, 0) (0, 0)
+    ensures logged { IsLogged (words_of words.now) (Some desk.old, Some desk.new)
+        (0, 0) (0, 0) (0, 0)
         (0, 0) (Some out.old, Some out.new) (Some err.old, Some err.new) result }
     ensures kept { KeepsFor result desk.old (words_of words.now) (Some desk.new)
         (Some out.old, Some out.new) kept.new }

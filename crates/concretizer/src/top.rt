@@ -3,6 +3,7 @@
 ghost use Rattle.std.specs.Prelude.{◌≡◌, ◌≤◌, None, Ok, Err, IfSome};
 ghost use Rattle.run_answers.specs.Exits.{IsAnsweredBy, IsRefusalStatus};
 ghost use Rattle.outside_desk.specs.Causes.{Rose};
+ghost use Rattle.outside_desk.specs.Files.{told};
 ghost use Rattle.run_output.specs.CertificateVerdicts.{no_verdict};
 ghost use Rattle.run_output.specs.Refusal.{Refusal};
 ghost use Rattle.run_output.specs.Refusals.{status_of};
@@ -48,8 +49,9 @@ use std::thread::Threads;
 /// - `trial N SEED` finds the best graph of N packages that are made in memory; `out` gets how many nodes it has, its cost vector
 ///   and how many clauses were learnt.
 ///
-/// At the return `kept` holds the log of the answer that `concretize` or `trial` found, of the first spec of `each` without a graph, or of
-/// the search that left `reasons` undecided, whatever it held before; of the other commands, and where reading stopped the run, it holds no line. Where memory ran out or a write
+/// At the return `kept` holds the log of the answer that `concretize` or `trial` found, of the first spec of `each` without a graph, the
+/// refutation that what `explain` said rests on or the log that spent its budget, or that of the search that left `reasons` undecided,
+/// whatever it held before; of the other commands, and where reading stopped the run, it holds no line. Where memory ran out or a write
 /// failed it holds the one or the other.
 ///
 /// `progress` is told how far the run is. It is a device apart from the others: what follows holds whatever it does.
@@ -73,40 +75,53 @@ pub fn run<R: Threads + Sync, D: Desk, O: Sink, E: Sink, P: Progress>(
         result }
     ensures usage { result ≡ Status.Usage → command_of (words_of words.now) ≡ None }
 
-    // The answers of a desk that tells its files.
-    ensures done { result ≡ Status.Done → IfSome (D.files desk.old) (λ files.
-        IsDone meaning files (words_of words.now) (D.files desk.new) (O.said out.old, O.said out.new)
+    // The answers of a desk that tells its files to the end: what it tells as the run begins (`told`). A desk that is supposed to hold
+    // files ceases to where it reads otherwise, and so what is said holds of each files that it may be supposed to hold and that all
+    // that was read agrees with.
+    ensures done { result ≡ Status.Done
+        → IfSome (told (D.files desk.old) (D.files desk.new)) (λ files.
+        IsDone meaning files (words_of words.now) (D.files desk.new)
+        (O.said out.old, O.said out.new)
         (E.said err.old, E.said err.new)) }
-    ensures shown { result ≡ Status.Done → IfSome (D.files desk.old) (λ files.
+    ensures shown { result ≡ Status.Done
+        → IfSome (told (D.files desk.old) (D.files desk.new)) (λ files.
         HasShown files (words_of words.now)) }
-    ensures unsatisfiable { result ≡ Status.Unsatisfiable → IfSome (D.files desk.old) (λ files.
+    ensures unsatisfiable { result ≡ Status.Unsatisfiable
+        → IfSome (told (D.files desk.old) (D.files desk.new)) (λ files.
         IsUnsatisfiable meaning files (words_of words.now) (D.files desk.new)
         (O.said out.old, O.said out.new) (E.said err.old, E.said err.new)) }
-    ensures undecided { result ≡ Status.Undecided → IfSome (D.files desk.old) (λ files.
+    ensures undecided { result ≡ Status.Undecided
+        → IfSome (told (D.files desk.old) (D.files desk.new)) (λ files.
         IsUndecided meaning files (words_of words.now) (D.files desk.new)
         (O.said out.old, O.said out.new) (E.said err.old, E.said err.new)) }
-    ensures stale { result ≡ Status.Stale → IfSome (D.files desk.old) (λ files.
+    ensures stale { result ≡ Status.Stale
+        → IfSome (told (D.files desk.old) (D.files desk.new)) (λ files.
         IsOutdated meaning files (words_of words.now) (D.files desk.new)
         (O.said out.old, O.said out.new) (E.said err.old, E.said err.new)) }
-    ensures outdone { result ≡ Status.Stale → IfSome (D.files desk.old) (λ files.
+    ensures outdone { result ≡ Status.Stale
+        → IfSome (told (D.files desk.old) (D.files desk.new)) (λ files.
         HasOutdone files (words_of words.now)) }
-    ensures refused { IsRefusalStatus result → IfSome (D.files desk.old) (λ files.
+    ensures refused { IsRefusalStatus result
+        → IfSome (told (D.files desk.old) (D.files desk.new)) (λ files.
         IsRefused meaning files (words_of words.now) result (D.files desk.new)
         (O.said out.old, O.said out.new) (E.said err.old, E.said err.new)) }
 
     // Faults come from outside, and are told.
     ensures read_fault { result ≡ Status.ReadFault →
         IsReadFault (words_of words.now) (D.faults desk.old, D.faults desk.new)
-        (D.files desk.old, D.files desk.new) (O.said out.old, O.said out.new)
+        (told (D.files desk.old) (D.files desk.new), D.files desk.new) (O.said out.old, O.said out.new)
         (E.said err.old, E.said err.new) }
     ensures write_fault { result ≡ Status.WriteFault →
-        IsWriteFault meaning (words_of words.now) (D.files desk.old, D.files desk.new)
+        IsWriteFault meaning (words_of words.now)
+        (told (D.files desk.old) (D.files desk.new), D.files desk.new)
         (D.put_faults desk.old, D.put_faults desk.new) (O.faults out.old, O.faults out.new)
         (E.faults err.old, E.faults err.new)
         (O.said out.old, O.said out.new) (E.said err.old, E.said err.new) }
     ensures no_memory { result ≡ Status.NoMemory →
-        IsOutOfMemory meaning (words_of words.now) (D.files desk.old, D.files desk.new)
-        (O.faults out.old, O.faults out.new) (O.said out.old, O.said out.new) (E.said err.old, E.said err.new) }
+        IsOutOfMemory meaning (words_of words.now)
+        (told (D.files desk.old) (D.files desk.new), D.files desk.new)
+        (O.faults out.old, O.faults out.new) (O.said out.old, O.said out.new)
+        (E.said err.old, E.said err.new) }
 
     // Any other answer is of a run in which no device failed: none that did is asked again, or passed over.
     ensures steady { IsOfInput result → (D.faults desk.new ≡ D.faults desk.old)
@@ -115,23 +130,25 @@ pub fn run<R: Threads + Sync, D: Desk, O: Sink, E: Sink, P: Progress>(
 
     // No file changes but those at LOCK and CERT of `concretize`, and at DIR/N.lock and DIR/N.cert of `each` with N below the number
     // of roots, and each is as it was or holds its whole text, whatever comes.
-    ensures others { IfSome (D.files desk.old) (λ files. ChangesOnly (words_of words.now) files (D.files desk.new)) }
-    ensures held { IfSome (D.files desk.old)
+    ensures others { IfSome (told (D.files desk.old) (D.files desk.new))
+        (λ files. ChangesOnly (words_of words.now) files (D.files desk.new)) }
+    ensures held { IfSome (told (D.files desk.old) (D.files desk.new))
         (λ files. Keeps meaning files (words_of words.now) (D.files desk.new)) }
 
     // All of this besides as the logs show it: what is shown over clauses of the problem, and when a certificate is refused.
-    ensures logged { IsLogged (words_of words.now) (D.files desk.old, D.files desk.new)
+    ensures logged { IsLogged (words_of words.now)
+        (told (D.files desk.old) (D.files desk.new), D.files desk.new)
         (D.faults desk.old, D.faults desk.new) (D.put_faults desk.old, D.put_faults desk.new)
         (O.faults out.old, O.faults out.new) (E.faults err.old, E.faults err.new)
         (O.said out.old, O.said out.new) (E.said err.old, E.said err.new) result }
 
     // The log of the search is kept, and no line where no search answered.
-    ensures kept { IfSome (D.files desk.old) (λ files.
+    ensures kept { IfSome (told (D.files desk.old) (D.files desk.new)) (λ files.
         KeepsFor result files (words_of words.now) (D.files desk.new)
         (O.said out.old, O.said out.new) kept.new) }
 
     // Input that nothing refuses is answered, where no device fails and no certificate is read.
-    ensures complete { IfSome (D.files desk.old) (λ files. (task : Task)
+    ensures complete { IfSome (told (D.files desk.old) (D.files desk.new)) (λ files. (task : Task)
         → Poses no_verdict files (words_of words.now) (Ok task)
         → ¬ Rose (D.faults desk.old) (D.faults desk.new)
         → ¬ Rose (D.put_faults desk.old) (D.put_faults desk.new)
@@ -139,7 +156,7 @@ pub fn run<R: Threads + Sync, D: Desk, O: Sink, E: Sink, P: Progress>(
         → ¬ Rose (E.faults err.old) (E.faults err.new) → Settles result) }
 
     // Input that is refused is answered so, where no device fails: by its certificate, `logged` says.
-    ensures due { IfSome (D.files desk.old) (λ files. (refusal : Refusal)
+    ensures due { IfSome (told (D.files desk.old) (D.files desk.new)) (λ files. (refusal : Refusal)
         → Poses no_verdict files (words_of words.now) (Err refusal)
         → ¬ Rose (D.faults desk.old) (D.faults desk.new)
         → ¬ Rose (D.put_faults desk.old) (D.put_faults desk.new)

@@ -23,7 +23,8 @@ known_at nodes i node name lt is same =
 
 module _ (g : Content) (graph : IsGraph g) (from : Text) (i : ℕ) where
   -- what a search from a node marks is what is below it
-  pub searched : (numbers : List (ℕ × ℕ)) (heads : List (List ℕ)) (marks : List Bool) → AreNumbered (map name_of g.nodes) (arcs_of g) numbers
+  pub searched : (numbers : List (ℕ × ℕ)) (heads : List (List ℕ)) (marks : List Bool)
+      → AreNumbered (map name_of g.nodes) (arcs_of g) numbers
       → AreHeads (length g.nodes) numbers heads → IsPlaceOf byte_cmp name_of g.nodes from i → MarksReached heads i marks
       → AreBelow g from marks
   searched numbers heads marks numbered are at told = record {

@@ -51,7 +51,8 @@ module _ {S T : Type 0} (p : T → Bool) (f : S → T) where
   find_last-pass xs i x b lt at is passes = let e : p (f x) ≡ true = sym is ∙ passes in sym (more xs i x lt at ∙ rw e refl)
 
   -- an element that does not pass leaves the last one
-  pub find_last-skip : (xs : List S) (i : ℕ) (x : S) (b : Bool) (last : Option T) → i < length xs → x ≡ get_or xs i x → b ≡ p (f x) → b ≡ false
+  pub find_last-skip : (xs : List S) (i : ℕ) (x : S) (b : Bool) (last : Option T) → i < length xs → x ≡ get_or xs i x
+      → b ≡ p (f x) → b ≡ false
       → last ≡ find_last p (map f (take i xs)) → last ≡ find_last p (map f (take (i + 1) xs))
   find_last-skip xs i x b last lt at is fails before = let e : p (f x) ≡ false = sym is ∙ fails in
       before ∙ sym (more xs i x lt at ∙ rw e refl)

@@ -36,7 +36,8 @@ fn rows_in<'a>(
     alloc: Global,
     entries: &[(&'a str, &'a VariantRow)],
 ) -> Result<Vec<&'a VariantRow>, AllocError>
-    ensures { IfOk result (λ rows. map (λ row. row.now) rows.items ≡ map (λ e. e.1) (lent entries.now)) }
+    ensures { IfOk result (λ rows. map (λ row. row.now) rows.items
+        ≡ map (λ e. e.1) (lent entries.now)) }
 {
     let mut rows = Vec::new(alloc);
     for entry in entries {

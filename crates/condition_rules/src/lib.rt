@@ -22,6 +22,7 @@ mod world;
 pub use at_node::{meets, meets_rest, provides, row_provides};
 pub use definitions::Definitions;
 pub use in_graph::{all_hold, asked_node, governing, holds, suits};
+pub use part::{is_compiler, is_target, meets_platform};
 pub use paths::Paths;
 pub use theorems::condition_laws;
 pub use virtuals::{ConflictRow, DependRow, Part, Providers, Recipe, RequireRow, Spec};

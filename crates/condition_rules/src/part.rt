@@ -41,7 +41,8 @@ pub(crate) fn meets_variants(part: &Part, node: &Node) -> bool
         .all(|wanted| has_values(variants, wanted))
 }
 
-fn is_compiler(wanted: &(Word, Option<VersionSet>), compiler: &Compiler) -> bool
+/// The compiler has the name, and a version of the set where there is one.
+pub fn is_compiler(wanted: &(Word, Option<VersionSet>), compiler: &Compiler) -> bool
     ensures { result ≡ is_compiler wanted.now compiler.now }
 {
     wanted.0.as_str() == compiler.name.as_str()
@@ -61,7 +62,8 @@ pub(crate) fn meets_compiler(part: &Part, node: &Node) -> bool
     }
 }
 
-pub(crate) fn meets_platform(world: &World, part: &Part) -> bool
+/// The platform is that of the part, where it has one.
+pub fn meets_platform(world: &World, part: &Part) -> bool
     ensures { result ≡ meets_platform world.now part.now }
 {
     match &part.platform {
@@ -98,7 +100,7 @@ fn text_of(word: &Option<Word>) -> Option<&str>
 }
 
 /// Whether a target is the one of an item, or lies in its range.
-fn is_target(world: &World, target: &str, item: &TargetItem) -> bool
+pub fn is_target(world: &World, target: &str, item: &TargetItem) -> bool
     ensures { result ≡ is_target world.now target.now item.now }
 {
     if item.range {

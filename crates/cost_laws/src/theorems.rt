@@ -68,7 +68,8 @@ pub fn place_laws()
         → problem.settings.os ≡ front ++ a ∷ rest
         → list_any (bytes_eq b) front ≡ false → bytes_eq b a ≡ false
         → os_weight problem a < os_weight problem b }
-    ensures targets { (problem : Problem) (a : TargetEntry) (b : Text) (front rest : List TargetEntry)
+    ensures targets { (problem : Problem) (a : TargetEntry) (b : Text)
+        (front rest : List TargetEntry)
         → problem.settings.targets ≡ front ++ a ∷ rest
         → list_any (λ (entry : TargetEntry). bytes_eq b entry.name) front ≡ false
         → bytes_eq b a.name ≡ false

@@ -53,7 +53,8 @@ module _ (n : ℕ) where
   parts-below (suc i) [] h = (tt, tt)
   parts-below (suc i) (f ∷ fs) h = let rest = parts-below i fs h.1 in ((h.0, rest.0), rest.1)
 
-  blocks-below : (times size : ℕ) (fs : List Statement) → SaidBelow n (any_statement fs) → SaidBelow n (any_statement (blocks_of times size fs))
+  blocks-below : (times size : ℕ) (fs : List Statement) → SaidBelow n (any_statement fs)
+      → SaidBelow n (any_statement (blocks_of times size fs))
   unfolding blocks_of
   blocks-below zero size fs h = h
   blocks-below (suc times) size fs h =

@@ -8,7 +8,7 @@ use Rattle.clause_circuits.specs.Binary.{size, spell_on}
 use Rattle.clause_circuits.proofs.TreeLaws.{halved-none, halved-leaf, halved-split, halved-sum}
 use Rattle.clause_circuits.proofs.AddLoops.{with_front}
 use Rattle.criteria_totals.specs.Merges.{above, merged_on}
-use Rattle.criteria_totals.specs.Digits.{not_above, left_over, digit_on, first_digit, rest_digits, with_digit, add_digits, digit_count, weight_digits, digits_on, low_bit_on, high_bit, bits_on, digit_bits_on}
+use Rattle.criteria_totals.specs.Digits.{not_above, left_over, digit_on, first_digit, rest_digits, with_lowest_digit, add_digits, digit_count, weight_digits, digits_on, low_bit_on, high_bit, bits_on, digit_bits_on}
 
 -- one more digit of a weight
 pub weight-more : (j k w : ℕ) (l : Lit) (ds all more : List (List Lit)) → j ≡ suc k → ds ++ weight_digits j w l ≡ all
@@ -40,7 +40,7 @@ add-more j w p q r t carry next here all digit x y ds es out more i m n inv f g 
     let xs = drop i ds in
     let ys = drop i es in
     let after = λ (d : Made (List Lit)) (c : List Lit) (xs ys : List (List Lit)). with_front out
-    (with_digit d.answer (add_digits w d.plan c xs ys)) in
+    (with_lowest_digit d.answer (add_digits w d.plan c xs ys)) in
     let with_all = λ (z : Made (List Lit)). after (digit_on z.plan z.answer) (above z.answer 3) (rest_digits xs) (rest_digits ys) in
     let with_here = λ (z : Made (List Lit)). with_all (merged_on z.plan z.answer carry) in
     let last : Made (List Lit) = record { plan = t; answer = digit } in

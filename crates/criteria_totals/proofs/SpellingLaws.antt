@@ -8,7 +8,7 @@ use Rattle.std.proofs.lemmas.List.{reverse-append, at_drop_more, at_drop_all, ap
 use Rattle.criteria_totals.specs.Merges.{thresholds}
 use Rattle.clause_circuits.specs.Binary.{size, number}
 use Rattle.clause_circuits.proofs.BinaryLaws.{size-is, number_after-is, number-small}
-use Rattle.criteria_totals.specs.Spellings.{compare_bits, compare_numbers, IsSpelling, unary, binary, spell, spell_all, within, bits_for, AllSmall, IsBelow}
+use Rattle.criteria_totals.specs.Spellings.{compare_bits, compare_numbers, IsSpelling, unary, binary, spelling_of, spell_all, within, bits_for, AllSmall, IsBelow}
 
 cmp-less : (m n : ℕ) → m < n → nat_cmp m n ≡ Less
 cmp-less m n h = rw (lt-ltb m n h) refl
@@ -97,16 +97,16 @@ binary-spells w top h = record {
 }
 
 -- both kinds are spellings
-pub spell-spells : (top : ℕ) → top < 2 ^ 63 → IsSpelling top (spell top)
-unfolding spell
+pub spell-spells : (top : ℕ) → top < 2 ^ 63 → IsSpelling top (spelling_of top)
+unfolding spelling_of
 spell-spells top h = elim (cases_Bool (leb top 64)) [
   | inl e ↦ rw e (unary-spells top)
   | inr e ↦
       rw e (binary-spells (size top) top (size-is top h))
 ]
 
-spell-width : (top m n : ℕ) → length (spell top m) ≡ length (spell top n)
-unfolding spell
+spell-width : (top m n : ℕ) → length (spelling_of top m) ≡ length (spelling_of top n)
+unfolding spelling_of
 spell-width top m n = elim (cases_Bool (leb top 64)) [
   | inl e ↦ rw e (unary-length top m ∙ sym (unary-length top n))
   | inr e ↦
@@ -124,7 +124,7 @@ all-order (t ∷ ts) (m ∷ ms) [] s h g = absurd (cc)
 all-order (t ∷ ts) (m ∷ ms) (n ∷ ns) s h g =
     let a = and_parts (leb m t) (within ts ms) h in
     let b = and_parts (leb n t) (within ts ns) g in
-    compare-append (spell t m) (spell t n) (spell_all ts ms) (spell_all ts ns) (spell-width t m n)
+    compare-append (spelling_of t m) (spelling_of t n) (spell_all ts ms) (spell_all ts ns) (spell-width t m n)
     ∙ rw ((spell-spells t s.0).order m n (leb-true m t a.0) (leb-true n t b.0), all-order ts ms ns s.1 a.1 b.1) refl
 
 -- bits that compare as less are below, as certificates say it
@@ -203,21 +203,21 @@ binary-more j w n place rest vals more all q p c e f = rw (f, p) (append_assoc v
     ]
 
 -- up to 64 in unary
-pub spell-low : (top n : ℕ) → top ≤ 64 → spell top n ≡ unary top n
-unfolding spell
+pub spell-low : (top n : ℕ) → top ≤ 64 → spelling_of top n ≡ unary top n
+unfolding spelling_of
 spell-low top n h = rw (le-leb top 64 h) refl
 
 -- above in binary
-pub spell-high : (top n : ℕ) → 64 < top → spell top n ≡ binary (size top) n
-unfolding spell
+pub spell-high : (top n : ℕ) → 64 < top → spelling_of top n ≡ binary (size top) n
+unfolding spelling_of
 spell-high top n h = rw (lt-leb top 64 h) refl
 
 -- the loop over a vector
 pub vector-more : (ts ns : List ℕ) (i d e : ℕ) (vals more all : List Bool) → i < length ts → i < length ns
-    → vals ++ spell_all (drop i ts) (drop i ns) ≡ all → more ≡ vals ++ spell (get_or ts i d) (get_or ns i e)
+    → vals ++ spell_all (drop i ts) (drop i ns) ≡ all → more ≡ vals ++ spelling_of (get_or ts i d) (get_or ns i e)
     → more ++ spell_all (drop (i + 1) ts) (drop (i + 1) ns) ≡ all
 vector-more ts ns i d e vals more all h g inv f =
-    rw f (append_assoc vals (spell (get_or ts i d) (get_or ns i e)) _)
+    rw f (append_assoc vals (spelling_of (get_or ts i d) (get_or ns i e)) _)
     ∙ ap (λ xs. vals ++ xs) (sym (at_drop_more (λ xs. spell_all xs (drop i ns)) ts i d h
     ∙ at_drop_more (λ xs. spell_all (get_or ts i d ∷ drop (i + 1) ts) xs) ns i e g)) ∙ inv
 

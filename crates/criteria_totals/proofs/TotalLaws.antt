@@ -18,7 +18,7 @@ use Rattle.clause_circuits.proofs.TreeLaws.{halved-sum, halved-below, weight-le}
 use Rattle.criteria_totals.proofs.SpelledLaws.{digit_bits_on-is, digit_bits_on-length}
 use Rattle.clause_circuits.proofs.BinaryLaws.{AllBelow-append, AllBelow-reverse, map-reverse}
 use Rattle.criteria_totals.proofs.UnaryLaws.{unary_on-is}
-use Rattle.criteria_totals.specs.Spellings.{unary, binary, spell, spell_all, within, bits_for, AllSmall}
+use Rattle.criteria_totals.specs.Spellings.{unary, binary, spelling_of, spell_all, within, bits_for, AllSmall}
 use Rattle.criteria_totals.specs.Totals.{number_on, totals_on, tops, sums, AllTermsBelow, values_at, IsTotals}
 use Rattle.criteria_totals.proofs.SpellingLaws.{all-order, all-equal, binary-is, unary-is}
 
@@ -54,8 +54,8 @@ binary-spelled p ts b h =
     }
 
 number-spelled : (p : Planned) (ts : List (ℕ × Lit)) → TermsBelow (next p) ts → total ts < 2 ^ 63
-    → Spelled p (number_on p ts) (λ v. spell (total ts) (weight v ts))
-unfolding number_on spell
+    → Spelled p (number_on p ts) (λ v. spelling_of (total ts) (weight v ts))
+unfolding number_on spelling_of
 number-spelled p ts b h = elim (cases_Bool (leb (total ts) 64)) [
   | inl e ↦ rw e (unary-spelled p ts b)
   | inr e ↦

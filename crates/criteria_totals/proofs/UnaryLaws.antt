@@ -1,5 +1,5 @@
 -- Merged lists spell the sums of a tree in unary.
-use Rattle.std.proofs.Common.{◌≡◌, ℕ, ◌+◌, Bool, length, refl, ◌∙◌, arith}
+use Rattle.std.proofs.Common.{ℕ, ◌+◌, length, refl, ◌∙◌, arith}
 use Rattle.std.proofs.lemmas.List.{length-replicate}
 use Rattle.clause_store.specs.declared.Lit.{Lit}
 use Rattle.clause_store.proofs.Range.{AllBelow-le}

@@ -46,8 +46,8 @@ abbrev pub rest_digits : List (List Lit) → List (List Lit)
 rest_digits [] = []
 rest_digits (d ∷ ds) = ds
 
-abbrev pub with_digit : List Lit → Made (List (List Lit)) → Made (List (List Lit))
-with_digit d m = record { plan = m.plan; answer = d ∷ m.answer }
+abbrev pub with_lowest_digit : List Lit → Made (List (List Lit)) → Made (List (List Lit))
+with_lowest_digit d m = record { plan = m.plan; answer = d ∷ m.answer }
 
 -- the lowest digits of a sum with a carry, so many
 abbrev pub add_digits : ℕ → Planned → List Lit → List (List Lit) → List (List Lit) → Made (List (List Lit))
@@ -56,7 +56,8 @@ add_digits (suc w) p carry ds es =
     let here = merged_on p (first_digit ds) (first_digit es) in
     let all = merged_on here.plan here.answer carry in
     let digit = digit_on all.plan all.answer in
-    with_digit digit.answer (add_digits w digit.plan (above all.answer 3) (rest_digits ds) (rest_digits es))
+    with_lowest_digit digit.answer
+    (add_digits w digit.plan (above all.answer 3) (rest_digits ds) (rest_digits es))
 
 -- how many digits a number below 2 ^ 63 has
 abbrev pub digit_count : ℕ → ℕ

@@ -38,12 +38,12 @@ binary zero n = []
 binary (suc w) n = nat_le (2 ^ w) n ∷ binary w (if nat_le (2 ^ w) n then n - 2 ^ w else n)
 
 -- the spelling of numbers up to a top
-unfoldable pub spell : ℕ → ℕ → List Bool
-spell top = if nat_le top 64 then unary top else binary (size top)
+unfoldable pub spelling_of : ℕ → ℕ → List Bool
+spelling_of top = if nat_le top 64 then unary top else binary (size top)
 
 -- a vector of numbers, each below its top
 abbrev pub spell_all : List ℕ → List ℕ → List Bool
-spell_all (t ∷ ts) (n ∷ ns) = spell t n ++ spell_all ts ns
+spell_all (t ∷ ts) (n ∷ ns) = spelling_of t n ++ spell_all ts ns
 spell_all _ ns = []
 
 abbrev pub within : List ℕ → List ℕ → Bool

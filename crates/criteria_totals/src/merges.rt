@@ -97,7 +97,7 @@ fn push_off(
     ensures { OnOk result (off.new.items ≡ off.old.items ++ off_clause k a.now b.now i) }
 {
     if i <= a.len() && k - 1 - i <= b.len() {
-        let mut lits = Vec::new(alloc);
+        let mut lits: SmallVec<Lit, 2> = SmallVec::new(alloc);
         lits.extend_from_slice(above(a, i))?;
         lits.extend_from_slice(above(b, k - 1 - i))?;
         off.push(Lits::from_slice(alloc, lits.as_slice())?)?;

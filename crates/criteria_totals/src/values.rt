@@ -1,6 +1,6 @@
 //! Numbers become truth values.
 ghost use Rattle.std.specs.Prelude.{◌≡◌, ◌++◌, ◌≤◌, length, option_map, IfOk, OnOk};
-ghost use Rattle.criteria_totals.specs.Spellings.{unary, binary, spell, bits_for};
+ghost use Rattle.criteria_totals.specs.Spellings.{unary, binary, spelling_of, bits_for};
 
 use crate::terms::Bits;
 use clause_circuits::size;
@@ -26,7 +26,7 @@ pub fn bits_of(alloc: Global, bits: &Bits, vector: &[u64]) -> Result<Option<Vec<
 }
 
 fn push_spelled(values: &mut Vec<bool>, top: u64, number: u64) -> Result<(), AllocError>
-    ensures { OnOk result (values.new.items ≡ values.old.items ++ spell top number) }
+    ensures { OnOk result (values.new.items ≡ values.old.items ++ spelling_of top number) }
 {
     if top <= 64 {
         push_unary(values, top, number)

@@ -27,7 +27,7 @@ pub fn worked_totals()
 {}
 
 /// Of weights 3 and 2, 3 is spelled 0 0 1 1 1 and 6 not at all; of 65, 65 is 1000001.
-#[tactic(auto, unfolding(crate::specs::Spellings::bits_for, crate::specs::Spellings::spell, clause_circuits::specs::Binary::size))]
+#[tactic(auto, unfolding(crate::specs::Spellings::bits_for, crate::specs::Spellings::spelling_of, clause_circuits::specs::Binary::size))]
 pub fn worked_sums()
     ensures three_of_five { bits_for (5 ∷ []) (3 ∷ [])
         ≡ Some (false ∷ false ∷ true ∷ true ∷ true ∷ []) }

@@ -1,7 +1,7 @@
 -- What a run leaves where a device failed, or memory ran out.
 use Rattle.std.proofs.Common.{◌≡◌, ◌⊎◌, refl, sym, ◌∙◌, ℕ, List, Option, Some, None, Err, subst, inl, inr}
 use Rattle.std.specs.Prelude.{IfSome}
-use Rattle.run_answers.specs.Exits.{IsRefusalStatus, Spoken}
+use Rattle.run_answers.specs.Exits.{IsRefusalStatus, IsSilent, Says, SaysFront, Spoken}
 use Rattle.outside_desk.specs.Causes.{Counts, Rose}
 use Rattle.outside_desk.specs.Files.{Files}
 use Rattle.run_input.specs.ReadStop.TheVariants.{Refused, Fault, NoMemory}
@@ -18,7 +18,7 @@ use Rattle.run_input.specs.Stops.{no_memory_line, stop_status}
 use Rattle.run_input.specs.WriteStop.TheVariants as writes
 use Rattle.dimacs_text.specs.Answers.{IsFault}
 use Rattle.dimacs_text.specs.Attempts.{Attempts, Concludes, FailsToPut, FailsToRead, FailsToSay, Follows, Reports, StopsBefore, line_of}
-use Rattle.dimacs_text.specs.Faults.{IsFront, IsOutOfMemory, IsReadFault, IsSilent, IsStopped, IsWriteFault, Says, SaysFront}
+use Rattle.dimacs_text.specs.Faults.{IsFront, IsOutOfMemory, IsReadFault, IsStopped, IsWriteFault}
 
 -- ---- the status of a refusal
 
@@ -99,6 +99,7 @@ module _ (told : Option Files) (words : List (List ℕ)) (out err : Spoken) (err
       (λ late rose. let no : statuses.WriteFault ≡ statuses.ReadFault = sym late ∙ is in cc)
       (λ none silent. let no : statuses.NoMemory ≡ statuses.ReadFault = sym none ∙ is in cc))
 
+  -- ReadFault is answered only where the reading failed, and its path was said
   pub read_fault : (stop : Stop) (reads : ℕ × ℕ) → Reports stop err errs result → Follows told words (Err stop)
       → (StopsBefore (Err stop) → out.1 ≡ out.0) → Counts reads.0 reads.1 (FailsToRead (Err stop)) → result ≡ statuses.ReadFault
       → IsReadFault told words reads out err
@@ -142,6 +143,7 @@ module _ (told : Option Files) (words : List (List ℕ)) (says : ℕ × ℕ) (ou
       (λ late failed. inr (record { stopped = s; rose = failed.1; errors = failed.0 }))
       (λ none silent. absurd (let no : statuses.NoMemory ≡ statuses.WriteFault = sym none ∙ is in cc))
 
+  -- WriteFault is answered only where one of the two sinks failed
   pub write_fault : (stop : Stop) → Reports stop err errs result → IfSome told (λ files. Attempts files words out.0 out.1 (Err stop))
       → (StopsBefore (Err stop) → out.1 ≡ out.0) → Counts says.0 says.1 (FailsToSay (Err stop)) → (FailsToPut (Err stop) → ⊥)
       → result ≡ statuses.WriteFault → IsWriteFault told words says errs out err
@@ -167,6 +169,7 @@ module _ (told : Option Files) (words : List (List ℕ)) (says : ℕ × ℕ) (ou
   no_memory_said (Write writes.Output) is says = absurd (let no : statuses.WriteFault ≡ statuses.NoMemory = is in cc)
   no_memory_said (Write writes.NoMemory) is says = says
 
+  -- NoMemory leaves what a run that stopped leaves, and that was said, or nothing
   pub no_memory : (stop : Stop) → Reports stop err errs result → IfSome told (λ files. Attempts files words out.0 out.1 (Err stop))
       → (StopsBefore (Err stop) → out.1 ≡ out.0) → Counts says.0 says.1 (FailsToSay (Err stop)) → result ≡ statuses.NoMemory
       → IsOutOfMemory told words says out err
@@ -187,6 +190,7 @@ concluded (Write (writes.Put path)) never = absurd (never tt)
 concluded (Write writes.Output) never = absurd (never tt)
 concluded (Write writes.NoMemory) never = absurd (never tt)
 
+-- where the answer is no fault, no count of faults rose
 pub steady : (stop : Stop) (err : Spoken) (reads says errs : ℕ × ℕ) (result : Status)
     → (Concludes (Err stop) → (reads.1 ≡ reads.0) × (says.1 ≡ says.0)) → Reports stop err errs result → ¬ IsFault result
     → (reads.1 ≡ reads.0) × (says.1 ≡ says.0) × (errs.1 ≡ errs.0)

@@ -48,8 +48,8 @@ Attempts files words before after written = IsWritten files words before after w
 
 -- ---- for any desk
 
--- the words are a command that reads a file or folder at the path: of recipes those that the folder of packages names, where
--- the desk tells its files
+-- the words are a command that reads a file or folder at the path; where the desk tells its files, of recipes those that the folder of
+-- packages names, and each path only behind what is read before it
 pub record IsRead (told : Option Files) (words : List (List ℕ)) (path : List ℕ) : Type 0 where
   pub command : Command
   pub named : command_of words ≡ Some command

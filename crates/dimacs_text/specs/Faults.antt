@@ -2,26 +2,14 @@
 --
 -- `told` are the files at entry, where the desk tells them, `words` those of the command that reads the same, `out` and `err` what the two
 -- sinks tell before and after, and the counts of faults those of the device that is named.
-use Rattle.std.specs.Prelude.{◌≡◌, ◌⊎◌, ℕ, List, Option, Some, Err, Ok, IfSome}
-use Rattle.run_answers.specs.Exits.{Spoken}
+use Rattle.std.specs.Prelude.{◌⊎◌, ℕ, List, Option, Some, Err, Ok, IfSome}
+use Rattle.run_answers.specs.Exits.{IsSilent, Says, SaysFront, Spoken}
 use Rattle.outside_desk.specs.Causes.{Rose}
-use Rattle.outside_desk.specs.Files.{Files, and_said, SaysPart}
+use Rattle.outside_desk.specs.Files.{Files}
 use Rattle.run_input.specs.Stop.{Stop}
 use Rattle.run_input.specs.Stops.{no_memory_line, output_fault_line, read_fault_line}
 use Rattle.dimacs_text.specs.Answers.{PosesBy}
 use Rattle.dimacs_text.specs.Attempts.{Attempts, IsRead, line_of}
-
--- nothing was said
-abbrev pub IsSilent : Spoken → Type 0
-IsSilent said = said.1 ≡ said.0
-
--- this was said, and nothing else
-abbrev pub Says : Spoken → List ℕ → Type 0
-Says said line = said.1 ≡ and_said said.0 line
-
--- a front of this was said, and nothing behind it
-abbrev pub SaysFront : Spoken → List ℕ → Type 0
-SaysFront said line = SaysPart said.0 said.1 line
 
 -- ReadFault: the desk failed to read the settings, the folder of packages, a recipe that it names or the database, and that was said
 pub record IsReadFault (told : Option Files) (words : List (List ℕ)) (faults : ℕ × ℕ) (out err : Spoken) : Type 0 where

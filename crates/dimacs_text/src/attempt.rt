@@ -2,6 +2,7 @@
 
 ghost use Rattle.std.specs.Prelude.{◌≡◌, IfOk, IfSome, OnOk};
 ghost use Rattle.outside_desk.specs.Causes.{Counts};
+ghost use Rattle.outside_desk.specs.Files.{StillTells};
 ghost use Rattle.run_input.specs.Inputs.{IsPosed};
 ghost use Rattle.run_input.specs.Words.{words_of};
 ghost use Rattle.dimacs_text.specs.Answers.{explained, text_of};
@@ -82,16 +83,16 @@ fn attempt_by<R: Threads + Sync, D: Desk, O: Sink>(
     desk: &mut D,
     out: &mut O,
 ) -> Result<(), Stop>
-    ensures outcome { IfSome (D.files desk.old) (λ files. AttemptsBy files command.now
+    ensures outcome { IfSome (D.files desk.new) (λ files. AttemptsBy files command.now
         (O.said out.old) (O.said out.new) result) }
-    ensures follows { FollowsBy (D.files desk.old) command.now result }
+    ensures follows { FollowsBy (D.files desk.new) command.now result }
     ensures unsaid { StopsBefore result → O.said out.new ≡ O.said out.old }
     ensures steady { Concludes result → (D.faults desk.new ≡ D.faults desk.old)
         × (O.faults out.new ≡ O.faults out.old) }
     ensures read { Counts (D.faults desk.old) (D.faults desk.new) (FailsToRead result) }
     ensures said { Counts (O.faults out.old) (O.faults out.new) (FailsToSay result) }
     ensures no_put { FailsToPut result → ⊥ }
-    ensures same { D.files desk.new ≡ D.files desk.old }
+    ensures same { StillTells (D.files desk.old) (D.files desk.new) }
     ensures put_faults { D.put_faults desk.new ≡ D.put_faults desk.old }
 {
     match read_input(rt, alloc, desk, command) {
@@ -112,16 +113,16 @@ fn attempt_over<R: Threads + Sync, D: Desk, O: Sink>(
     desk: &mut D,
     out: &mut O,
 ) -> Result<(), Stop>
-    ensures outcome { IfSome (D.files desk.old) (λ files. Attempts files (words_of words.now)
+    ensures outcome { IfSome (D.files desk.new) (λ files. Attempts files (words_of words.now)
         (O.said out.old) (O.said out.new) result) }
-    ensures follows { Follows (D.files desk.old) (words_of words.now) result }
+    ensures follows { Follows (D.files desk.new) (words_of words.now) result }
     ensures unsaid { StopsBefore result → O.said out.new ≡ O.said out.old }
     ensures steady { Concludes result → (D.faults desk.new ≡ D.faults desk.old)
         × (O.faults out.new ≡ O.faults out.old) }
     ensures read { Counts (D.faults desk.old) (D.faults desk.new) (FailsToRead result) }
     ensures said { Counts (O.faults out.old) (O.faults out.new) (FailsToSay result) }
     ensures no_put { FailsToPut result → ⊥ }
-    ensures same { D.files desk.new ≡ D.files desk.old }
+    ensures same { StillTells (D.files desk.old) (D.files desk.new) }
     ensures put_faults { D.put_faults desk.new ≡ D.put_faults desk.old }
 {
     match read_command(alloc, words) {
@@ -139,16 +140,16 @@ pub fn attempt<R: Threads + Sync, D: Desk, O: Sink>(
     desk: &mut D,
     out: &mut O,
 ) -> Result<(), Stop>
-    ensures outcome { IfSome (D.files desk.old) (λ files. Attempts files
+    ensures outcome { IfSome (D.files desk.new) (λ files. Attempts files
         (explained (words_of words.now)) (O.said out.old) (O.said out.new) result) }
-    ensures follows { Follows (D.files desk.old) (explained (words_of words.now)) result }
+    ensures follows { Follows (D.files desk.new) (explained (words_of words.now)) result }
     ensures unsaid { StopsBefore result → O.said out.new ≡ O.said out.old }
     ensures steady { Concludes result → (D.faults desk.new ≡ D.faults desk.old)
         × (O.faults out.new ≡ O.faults out.old) }
     ensures read { Counts (D.faults desk.old) (D.faults desk.new) (FailsToRead result) }
     ensures said { Counts (O.faults out.old) (O.faults out.new) (FailsToSay result) }
     ensures no_put { FailsToPut result → ⊥ }
-    ensures same { D.files desk.new ≡ D.files desk.old }
+    ensures same { StillTells (D.files desk.old) (D.files desk.new) }
     ensures put_faults { D.put_faults desk.new ≡ D.put_faults desk.old }
 {
     match explained(alloc, words) {

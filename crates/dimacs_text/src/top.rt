@@ -4,6 +4,7 @@ ghost use Rattle.std.specs.Prelude.{◌≡◌, IfOk, IfSome};
 ghost use Rattle.std.specs.String.{string_bytes};
 ghost use Rattle.run_answers.specs.Exits.{IsAnsweredBy};
 ghost use Rattle.outside_desk.specs.Causes.{Rose};
+ghost use Rattle.outside_desk.specs.Files.{StillTells};
 ghost use Rattle.run_input.specs.Words.{words_of};
 ghost use Rattle.dimacs_text.specs.Answers.{Answers, IsFault, Posed, Poses, explained, status_of, usage_line};
 ghost use Rattle.dimacs_text.specs.Attempts.{Reports, line_of};
@@ -62,12 +63,12 @@ pub fn run<R: Threads + Sync, D: Desk, O: Sink, E: Sink>(
     out: &mut O,
     err: &mut E,
 ) -> Status
-    // The answers of a desk that tells its files.
-    ensures answers { IfSome (D.files desk.old) (λ files. Answers files (words_of words.now)
+    // The answers of a desk that tells its files to the end.
+    ensures answers { IfSome (D.files desk.new) (λ files. Answers files (words_of words.now)
         (O.said out.old, O.said out.new) (E.said err.old, E.said err.new) result) }
 
     // What the words pose is answered, where no device fails.
-    ensures settles { IfSome (D.files desk.old) (λ files. (posed : Posed)
+    ensures settles { IfSome (D.files desk.new) (λ files. (posed : Posed)
         → Poses files (words_of words.now) posed
         → ¬ Rose (D.faults desk.old) (D.faults desk.new)
         → ¬ Rose (O.faults out.old) (O.faults out.new)
@@ -77,16 +78,16 @@ pub fn run<R: Threads + Sync, D: Desk, O: Sink, E: Sink>(
     // Faults come from outside, and are told. Reading stops before anything is said; where the sink of the answer fails, a front of
     // the text was.
     ensures read_fault { result ≡ Status.ReadFault →
-        IsReadFault (D.files desk.old) (explained (words_of words.now))
+        IsReadFault (D.files desk.new) (explained (words_of words.now))
         (D.faults desk.old, D.faults desk.new)
         (O.said out.old, O.said out.new) (E.said err.old, E.said err.new) }
     ensures write_fault { result ≡ Status.WriteFault →
-        IsWriteFault (D.files desk.old) (explained (words_of words.now))
+        IsWriteFault (D.files desk.new) (explained (words_of words.now))
         (O.faults out.old, O.faults out.new)
         (E.faults err.old, E.faults err.new) (O.said out.old, O.said out.new)
         (E.said err.old, E.said err.new) }
     ensures no_memory { result ≡ Status.NoMemory →
-        IsOutOfMemory (D.files desk.old) (explained (words_of words.now))
+        IsOutOfMemory (D.files desk.new) (explained (words_of words.now))
         (O.faults out.old, O.faults out.new)
         (O.said out.old, O.said out.new) (E.said err.old, E.said err.new) }
 
@@ -95,7 +96,7 @@ pub fn run<R: Threads + Sync, D: Desk, O: Sink, E: Sink>(
         × (O.faults out.new ≡ O.faults out.old) × (E.faults err.new ≡ E.faults err.old) }
 
     // No file changes.
-    ensures same { D.files desk.new ≡ D.files desk.old }
+    ensures same { StillTells (D.files desk.old) (D.files desk.new) }
     ensures put_faults { D.put_faults desk.new ≡ D.put_faults desk.old }
 {
     input_laws();

@@ -5,6 +5,7 @@ use Rattle.variant_values.specs.Texts.{Texts, with_texts}
 use Rattle.spec_grammar.specs.Meaning.{truth}
 use Rattle.spec_grammar.specs.Signs.{is_value}
 use Rattle.spec_grammar.specs.declared.part.Spec.{Spec}
+use Rattle.graph_core.specs.Graphs.{no_kinds}
 use Rattle.graph_core.specs.declared.node.Kinds.{Kinds}
 use Rattle.recipe_values.specs.declared.value.Scalar.{Scalar}
 use Rattle.recipe_values.specs.declared.value.Scalar.TheVariants.{Text, Number, Truth, Nothing, Nested}
@@ -49,9 +50,6 @@ abbrev pub when_in : Bool → PlacedValue → ArgumentStep (Option Spec)
 when_in local r = when_by local r r.value
 
 -- ---- `type`: one kind, or a tuple or list of them that is not empty
-
-abbrev pub no_kinds : Kinds
-no_kinds = record { build = false; link = false; run = false }
 
 abbrev pub add_word : ℕ → List ℕ → Kinds → ArgumentStep Kinds
 add_word place w kinds =

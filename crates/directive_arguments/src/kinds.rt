@@ -2,7 +2,8 @@
 
 ghost use Rattle.std.specs.Prelude.{◌≡◌};
 ghost use Rattle.directive_arguments.specs.Results.{Is, steps};
-ghost use Rattle.directive_arguments.specs.Keywords.{no_kinds, add_word, add_kind, element_kind, kinds_in};
+ghost use Rattle.directive_arguments.specs.Keywords.{add_word, add_kind, element_kind, kinds_in};
+ghost use Rattle.graph_core.specs.Graphs.{no_kinds};
 
 use crate::ArgumentFault;
 use crate::table::is;

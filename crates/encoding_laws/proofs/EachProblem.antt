@@ -53,7 +53,8 @@ module _ (problem : Problem) (closure : IsClosure problem (closure_of problem)) 
   abbrev new : Clauses
   new = with_gates listed.list summed.plan.gates
 
-  over : IsTableBelow (rule_clauses problem).vars (table_of problem) × MetBelow (rule_clauses problem).vars (statement_at (rule_values problem))
+  over : IsTableBelow (rule_clauses problem).vars (table_of problem)
+      × MetBelow (rule_clauses problem).vars (statement_at (rule_values problem))
   over = range problem (closure_of problem) no_place closure has (unplaced problem (closure_of problem))
 
   are-small : are_small lists ≡ true

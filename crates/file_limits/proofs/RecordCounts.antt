@@ -19,7 +19,7 @@ use Rattle.record_reader.specs.declared.record.Front.{Front}
 use Rattle.record_reader.specs.declared.record.Middle.{Middle}
 use Rattle.reuse_db.specs.declared.record.Dependency.{Dependency}
 use Rattle.reuse_db.specs.declared.record.Record.{Record}
-use Rattle.record_reader.specs.Files.{file_keys, may_name, records_at, version_at}
+use Rattle.record_reader.specs.Files.{file_keys, may_name_virtuals, records_at, version_at}
 use Rattle.problem.specs.Limits.{record_members, variant_members}
 use Rattle.file_limits.specs.DatabaseSizes.{DatabasesHoldRecords}
 use Rattle.file_limits.proofs.Parts.{length-with_text}
@@ -55,7 +55,8 @@ dependencies-count names odd ms front e =
     let some = λ (xs : List Dependency). length xs + sum_by (λ x. 0) xs in
     let compiler = bind_ok (field (null_or compiler_at) odd (codes "compiler") ms) _ front e in
     let dependencies = bind_ok (field list odd (codes "dependencies") ms) _ front compiler.2 in
-    let counted : CountsWithin some list = set-counts (λ x. 0) (dependency_at names) (none-counts (dependency_at names)) Some (Some (codes "hash")) in
+    let counted : CountsWithin some list = set-counts (λ x. 0) (dependency_at names) (none-counts (dependency_at names)) Some
+    (Some (codes "hash")) in
     let within = field-counts some list counted odd (codes "dependencies") ms dependencies.0 dependencies.1 in
     let same : length dependencies.0 ≡ length front.dependencies = ap listed dependencies.2 in
     omega arith
@@ -101,12 +102,13 @@ unfolding records_at
 records-count d records e =
     let some = λ (entries : List Record). length entries + sum_by record_members entries in
     let ms = bind_ok (members_of d) _ records e in
-    let names = may_name ms.0 in
+    let names = may_name_virtuals ms.0 in
     let odd = first_odd file_keys ms.0 in
     let list = bind_ok (field (list_of (record_entry_at names)) odd (codes "records") ms.0) _ records ms.2 in
     let version = bind_ok (field version_at odd (codes "version") ms.0) _ records list.2 in
     let none = bind_ok (none_odd odd) _ records version.2 in
-    let within = field-counts some (list_of (record_entry_at names)) (list-counts record_members (record_entry_at names) (record-count names)) odd
+    let within = field-counts some (list_of (record_entry_at names))
+    (list-counts record_members (record_entry_at names) (record-count names)) odd
     (codes "records") ms.0
     list.0 list.1 in
     subst (λ v. some records ≤ weight v) (sym (members_ok d ms.0 ms.1))

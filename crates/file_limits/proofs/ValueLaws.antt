@@ -23,7 +23,7 @@ use Rattle.record_reader.specs.Records.{back_at, front_at, record_keys, middle_a
 use Rattle.record_reader.specs.declared.record.Front.{Front}
 use Rattle.record_reader.specs.declared.record.Middle.{Middle}
 use Rattle.reuse_db.specs.declared.record.Record.{Record}
-use Rattle.record_reader.specs.Files.{file_keys, may_name, records_at, version_at, IsDatabase}
+use Rattle.record_reader.specs.Files.{file_keys, may_name_virtuals, records_at, version_at, IsDatabase}
 use Rattle.file_limits.specs.Values.{are_valued, has_values, is_filled}
 use Rattle.file_limits.proofs.OrderLaws.{AreOrderedItems, AreOrderedMembers, IsOrdered, keys_in, member_ordered, text_ordered}
 
@@ -110,7 +110,8 @@ back_valued front middle odd ms entry ordered e =
     subst (λ (l : Variants). are_valued l ≡ true) same
     (map_valued read.0 variants.0 (member_ordered (codes "variants") ms read.0 ordered read.1) read.2)
 
-record_valued : (names : Bool) (d : Data) (entry : Record) → IsOrdered d → record_entry_at names d ≡ Ok entry → are_valued entry.variants ≡ true
+record_valued : (names : Bool) (d : Data) (entry : Record) → IsOrdered d → record_entry_at names d ≡ Ok entry
+    → are_valued entry.variants ≡ true
 unfolding record_entry_at
 record_valued names d entry ordered e =
     let ms = bind_ok (members_of d) _ entry e in
@@ -120,7 +121,8 @@ record_valued names d entry ordered e =
     let inside : IsOrdered (object ms.0) = subst IsOrdered (members_ok d ms.0 ms.1) ordered in
     back_valued front.0 middle.0 odd ms.0 entry inside.1 middle.2
 
-items_valued : (names : Bool) (i : ℕ) (ds : Items) (records : List Record) → AreOrderedItems ds → items_from (record_entry_at names) i ds ≡ Ok records
+items_valued : (names : Bool) (i : ℕ) (ds : Items) (records : List Record) → AreOrderedItems ds
+    → items_from (record_entry_at names) i ds ≡ Ok records
     → list_all has_values records ≡ true
 items_valued names i no_items records ordered e =
     subst (λ (l : List Record). list_all has_values l ≡ true) (ok_same [] records e) refl
@@ -144,13 +146,13 @@ unfolding records_at
 value_valued d records ordered e =
     let ms = bind_ok (members_of d) _ records e in
     let odd = first_odd file_keys ms.0 in
-    let list = bind_ok (field (list_of (record_entry_at (may_name ms.0))) odd (codes "records") ms.0) _ records ms.2 in
+    let list = bind_ok (field (list_of (record_entry_at (may_name_virtuals ms.0))) odd (codes "records") ms.0) _ records ms.2 in
     let version = bind_ok (field version_at odd (codes "version") ms.0) _ records list.2 in
     let none = bind_ok (none_odd odd) _ records version.2 in
     let inside : IsOrdered (object ms.0) = subst IsOrdered (members_ok d ms.0 ms.1) ordered in
-    let read = field_ok (list_of (record_entry_at (may_name ms.0))) odd (codes "records") ms.0 list.0 list.1 in
+    let read = field_ok (list_of (record_entry_at (may_name_virtuals ms.0))) odd (codes "records") ms.0 list.0 list.1 in
     subst (λ (l : List Record). list_all has_values l ≡ true) (ok_same list.0 records none.2)
-    (list_valued (may_name ms.0) read.0 list.0 (member_ordered (codes "records") ms.0 read.0 inside.1 read.1) read.2)
+    (list_valued (may_name_virtuals ms.0) read.0 list.0 (member_ordered (codes "records") ms.0 read.0 inside.1 read.1) read.2)
 
 -- each record of a database has its variants in order, each with a value
 pub database_valued : (bytes : List ℕ) (records : List Record) → IsDatabase bytes records

@@ -14,7 +14,7 @@ use Rattle.recipe_values.specs.declared.segment.Atom.TheVariants.{Plain, Inner}
 use Rattle.recipe_values.specs.declared.segment.Segment.{Segment}
 use Rattle.recipe_values.specs.Reads.{Read, join}
 use Rattle.recipe_values.specs.Strings.{string, as_text}
-use Rattle.recipe_values.specs.Values.{is_empty, one, is_digits, word_value, alone, atom_text, texts, text_value, plain_value, value_by, segment_value}
+use Rattle.recipe_values.specs.Values.{is_empty, one, is_digits, word_value, unless_more, atom_text, texts, text_value, plain_value, value_by, segment_value}
 use Rattle.recipe_lexer.proofs.Keeping.{cond_all}
 use Rattle.file_limits.proofs.Sizes.{size_by, token_size, value_size, read_size, atom_size, segment_size}
 use Rattle.file_limits.proofs.TokenCounts.{Few, few-more, few-join}
@@ -104,7 +104,7 @@ fits-more : (m n : ℕ) (r : Read PlacedValue) → ReadFits m r → m ≤ n → 
 fits-more m n (Ok r) h le = (omega (arith, h.0, le), omega (arith, h.1, le))
 fits-more m n (Err place) h le = tt
 
-alone-fits : (n place : ℕ) (behind : List Atom) (r : Read PlacedValue) → ReadFits n r → ReadFits n (alone place behind r)
+alone-fits : (n place : ℕ) (behind : List Atom) (r : Read PlacedValue) → ReadFits n r → ReadFits n (unless_more place behind r)
 alone-fits n place behind (Ok r) h = cond_all (ReadFits n) (is_empty behind) (Ok r) (Err place) (λ e. h) (λ e. tt)
 alone-fits n place behind (Err p) h = tt
 
@@ -121,7 +121,7 @@ by-fits bytes (Plain t ∷ more) stop =
     fits-more (n + rest) (sum_by atom_size (Plain t ∷ more)) (plain_value bytes t more)
     (cond_all (ReadFits (n + rest)) (is_text_kind t.kind)
     (text_value t.start (as_text t.start (join (string bytes t) (texts bytes t.start more))))
-    (alone t.start more (word_value t.start (word bytes t)))
+    (unless_more t.start more (word_value t.start (word bytes t)))
     (λ e. text-fits (n + rest) t.start (as_text t.start (join (string bytes t) (texts bytes t.start more)))
     (short-text (n + rest) t.start (join (string bytes t) (texts bytes t.start more))
     (short-join n rest (string bytes t) (texts bytes t.start more) (string-short bytes t t.kind e) (texts-few bytes t.start more))))

@@ -133,7 +133,8 @@ module _ (g : Content) (graph : IsGraph g) (r : Result Bool AllocError) where
       → IsGraph (record g { nodes = nodes })
   graph-after_node node nodes ok err = graph-after_node-cases r ok err
     where
-      graph-after_node-cases : (r : Result Bool AllocError) → IfOk r (λ added. nodes ≡ cond added (with_one byte_cmp name_of g.nodes node) g.nodes)
+      graph-after_node-cases : (r : Result Bool AllocError)
+          → IfOk r (λ added. nodes ≡ cond added (with_one byte_cmp name_of g.nodes node) g.nodes)
           → OnErr r (nodes ≡ g.nodes) → IsGraph (record g { nodes = nodes })
       graph-after_node-cases (Ok true) is _ = rw is (graph-with_node g graph node)
       graph-after_node-cases (Ok false) is _ = rw is graph

@@ -1,5 +1,5 @@
 -- Graphs as three lists in order.
-use Rattle.std.specs.Prelude.{ℕ, Bool, ◌&&◌, ◌||◌, List, [], Option, map, filter, All, Contains, option_map, is_some}
+use Rattle.std.specs.Prelude.{ℕ, Bool, true, false, ◌&&◌, ◌||◌, List, [], Option, map, filter, All, Contains, option_map, is_some}
 use Rattle.std.specs.List.{list_all}
 use Rattle.std.specs.Ordering.{on, then_cmp}
 use Rattle.std.specs.Str.{bytes_eq}
@@ -9,6 +9,8 @@ use Rattle.keyed_lists.specs.Keyed.{IsInOrder, rises, find_key, with_one}
 use Rattle.graph_core.specs.declared.node.Node.{Node}
 use Rattle.graph_core.specs.declared.node.Edge.{Edge}
 use Rattle.graph_core.specs.declared.node.Kinds.{Kinds}
+use Rattle.graph_core.specs.declared.node.Origin.{Origin}
+use Rattle.graph_core.specs.declared.node.Origin.TheVariants.{Built, External, Installed}
 
 -- a text, as its bytes
 abbrev pub Text : Type 0
@@ -22,6 +24,19 @@ pub record Content : Type 0 where
 
 abbrev pub no_content : Content
 no_content = record { nodes = []; edges = []; providers = [] }
+
+-- ---- attributes
+
+abbrev pub no_kinds : Kinds
+no_kinds = record { build = false; link = false; run = false }
+
+-- it is that of the nodes to build
+abbrev pub builds : Origin → Bool
+builds origin = elim origin [ Built ↦ true | External place ↦ false | Installed hash ↦ false ]
+
+-- the node is to be built
+abbrev pub is_built : Node → Bool
+is_built node = builds node.origin
 
 -- ---- keys
 

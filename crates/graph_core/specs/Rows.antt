@@ -10,7 +10,12 @@ abbrev pub node_named : Text → Node
 node_named name = record { name = name; version = []; variants = []; compiler = None; os = []; target = []; prefix = None; origin = Built }
 
 abbrev pub edge_between : Text → Text → Edge
-edge_between parent child = record { parent = parent; child = child; kinds = record { build = false; link = true; run = false }; virtuals = [] }
+edge_between parent child = record {
+  parent = parent;
+  child = child;
+  kinds = record { build = false; link = true; run = false };
+  virtuals = [];
+}
 
 -- nodes a, b and c, with edges from a to b and from b to c
 abbrev pub row_of_three : Content

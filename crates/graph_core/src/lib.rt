@@ -15,7 +15,7 @@ mod theorems;
 
 pub use graph::Graph;
 pub use keyed_lists::{Bits, Keyed, ValueSet, VariantKind, find, heads_of, reached};
-pub use node::{Compiler, Edge, Kinds, Node, Origin};
+pub use node::{Compiler, Edge, Kinds, Node, Origin, is_built};
 pub use paths::{known_place, reaches};
 pub use reach::Reach;
 pub use theorems::{given_laws, graph_laws, path_laws, worked_graphs};

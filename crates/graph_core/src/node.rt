@@ -1,5 +1,8 @@
 //! What a graph is made of.
 
+ghost use Rattle.std.specs.Prelude.{◌≡◌};
+ghost use Rattle.graph_core.specs.Graphs.{is_built};
+
 use keyed_lists::{Keyed, ValueSet};
 use plain_data::{List, Word};
 use spec_hash::Hash;
@@ -53,6 +56,13 @@ pub struct Edge {
     pub kinds: Kinds,
     /// What the child provides to the parent.
     pub virtuals: ValueSet,
+}
+
+/// Whether a node is to be built.
+pub fn is_built(node: &Node) -> bool
+    ensures { result ≡ is_built node.now }
+{
+    matches!(node.origin, Origin::Built)
 }
 
 impl Keyed for Node {

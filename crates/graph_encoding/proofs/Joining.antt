@@ -1,51 +1,48 @@
 -- The stages of an encoding, joined.
-use Rattle.std.proofs.Common.{◌≡◌, ◌↔◌, refl, sym, ap, subst, ◌∙◌, Bool, true, ◌&&◌, ℕ, ◌<◌, ◌≤◌, List, [], ◌∷◌, ◌++◌, map, Option, arith}
-use Rattle.std.specs.List.{list_all, All}
+use Rattle.std.proofs.Common.{◌≡◌, refl, sym, subst, ◌∙◌, Bool, true, ◌&&◌, ℕ, ◌≤◌, List, [], ◌∷◌, map, Option, arith}
+use Rattle.std.specs.List.{list_all}
 use Rattle.std.proofs.lemmas.Bool.{and_parts, and_from}
-use Rattle.std.proofs.lemmas.List.Elements.{All-map}
 use Rattle.std.proofs.lemmas.List.Folds.{list_all-append}
 use Rattle.clause_store.specs.declared.Lit.{Lit}
-use Rattle.clause_store.specs.Lits.{var_of}
 use Rattle.clause_store.specs.declared.Label.TheVariants.{Structure}
-use Rattle.clause_store.specs.Clauses.{Clauses, Meets}
-use Rattle.clause_circuits.specs.Growth.{Agree, Says as ClausesSay, where_asked}
+use Rattle.clause_store.specs.Clauses.{Clauses}
+use Rattle.clause_circuits.specs.Growth.{Says as ClausesSay, where_asked}
 use Rattle.clause_formulas.specs.declared.defined.Defined.{Defined}
 use Rattle.clause_formulas.specs.Statements.{Statement, eval, any_statement, SaidBelow}
-use Rattle.clause_formulas.specs.Drafts.{statement_at, part_at}
+use Rattle.clause_formulas.specs.Drafts.{statement_at}
 use Rattle.clause_formulas.specs.Values.{DefinesValues}
 use Rattle.clause_formulas.specs.Gated.{Gated, bare}
 use Rattle.clause_formulas.specs.Allowed.{SaysIn}
-use Rattle.clause_formulas.specs.Built.{Grown, Shared, assert_in, define_all_in, demand_all_in, demands_true}
+use Rattle.clause_formulas.specs.Built.{Grown, Shared, assert_in, define_all_in, demand_all_in}
 use Rattle.clause_formulas.proofs.Laws.{assert_in_is, define_all_is, demand_all_is}
 use Rattle.clause_formulas.proofs.Words.{value-below}
 use Rattle.clause_formulas.proofs.DraftLaws.{SaidBelow-le}
 use Rattle.level_encoding.specs.Asserted.{assert_all, levels_on}
-use Rattle.level_encoding.specs.Input.{LevelData, IsRight, literal_at}
+use Rattle.level_encoding.specs.Input.{LevelData}
 use Rattle.level_encoding.specs.Encoding.{paths_of}
 use Rattle.level_encoding.specs.Laws.{KeepsLevels}
 use Rattle.level_encoding.proofs.AssertedLaws.{assert_all-says}
 use Rattle.level_encoding.proofs.Told.{keeps as levels-keep}
-use Rattle.graph_core.specs.Graphs.{Text, Content, IsGraph}
+use Rattle.graph_core.specs.Graphs.{Text, Content}
 use Rattle.problem.specs.Nodes.{IsWellFormed}
 use Rattle.problem.specs.Problems.{Problem, root_names}
 use Rattle.problem.specs.Demands.{demands}
 use Rattle.problem.specs.declared.demand.Demand.{Demand}
 use Rattle.graph_rules.specs.Valid.{keeps, keeps_all, keeps_demand, structure_rules, valid_for}
-use Rattle.graph_rules.specs.declared.rule.Rule.{Rule}
 use Rattle.graph_rules.specs.declared.rule.Rule.TheVariants as rules
-use Rattle.literal_table.specs.Tables.{Table, IsTable, table_names}
+use Rattle.literal_table.specs.Tables.{Table, table_names}
 use Rattle.literal_table.specs.Spells.{Spells}
-use Rattle.graph_levels.specs.Stages.{Nothing, Both, IsLocal, Models, Stage, Decodes}
-use Rattle.graph_levels.specs.Rules.{Says, Holds, FitsGates, ValuesSay, asked_among, KeepsAsked}
-use Rattle.graph_levels.proofs.Growing.{added, joined, restated, named, decodes, local-le, local-both}
+use Rattle.graph_levels.specs.Stages.{Nothing, Both, Models, Stage, Decodes}
+use Rattle.graph_levels.specs.Rules.{Holds, FitsGates, ValuesSay, asked_among, KeepsAsked}
+use Rattle.graph_levels.proofs.Growing.{added, restated}
 use Rattle.graph_levels.proofs.Adapters.{asserted, defined, demanded, begun}
 use Rattle.graph_levels.specs.Edges.{EdgesSay, EdgesBelow, edges_on}
-use Rattle.graph_levels.specs.Levels.{SpellsEdges, AGraph, KeepsLevelRules, PathsSay, input_for, places_of, path_said}
+use Rattle.graph_levels.specs.Levels.{SpellsEdges, AGraph, KeepsLevelRules, PathsSay, input_for, places_of}
 use Rattle.graph_levels.proofs.EdgeLaws.{edges-are, edge-stage}
 use Rattle.graph_levels.proofs.InputLaws.{input-right, lits-below}
 use Rattle.graph_levels.proofs.LevelStage.{level-stage, path-below}
-use Rattle.graph_encoding.specs.Formulas.{Formulas, PathFormulas, other_rules, IsSpelled, IsRightTable, PathsTold, ConditionsTold, PathsBelow, MetBelow, AreRightFormulas}
-use Rattle.graph_encoding.specs.Encodings.{base, edges_made, level_input, levels_made, path_of, rules_on, encode_on, told_in, IsValid}
+use Rattle.graph_encoding.specs.Formulas.{Formulas, PathFormulas, other_rules, IsSpelled, IsRightTable, PathsBelow, MetBelow, AreRightFormulas}
+use Rattle.graph_encoding.specs.Encodings.{base, edges_made, levels_made, path_of, rules_on, encode_on, told_in, IsValid}
 
 -- ---- the rules together
 

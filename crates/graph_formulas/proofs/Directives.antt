@@ -1,11 +1,8 @@
 -- The rules of roots and directives hold where these are kept.
-use Rattle.std.proofs.Common.{◌≡◌, refl, sym, ap, ◌∙◌, Bool, true, false, not, ◌||◌, ◌&&◌, ℕ, ◌+◌, List, [], ◌∷◌, Option, Some, None, inl, inr, arith}
-use Rattle.std.specs.Prelude.{◌==◌, if◌then◌else◌, count_by}
-use Rattle.std.specs.List.{list_any, list_all}
+use Rattle.std.proofs.Common.{◌≡◌, refl, sym, ap, ◌∙◌, Bool, true, false, not, ◌||◌, ◌&&◌, List, Option, Some, None, inl, inr}
+use Rattle.std.specs.Prelude.{if◌then◌else◌}
 use Rattle.std.specs.Option.{option_and_then}
-use Rattle.std.proofs.lemmas.Bool.{cases_Bool, eqb-true, eq-eqb, ne_eqb}
-use Rattle.std.proofs.lemmas.List.Sums.{sum_by-cons}
-use Rattle.std.proofs.lemmas.List.Folds.{sum_by-zero}
+use Rattle.std.proofs.lemmas.Bool.{cases_Bool}
 use Rattle.spec_grammar.specs.declared.part.Spec.{Spec}
 use Rattle.clause_formulas.specs.Rules.{Proposition, keeps_rule, fact}
 use Rattle.graph_core.specs.Graphs.{Text}
@@ -23,7 +20,7 @@ use Rattle.graph_core.specs.declared.node.Edge.{Edge}
 use Rattle.literal_table.specs.Spells.{virtuals_in}
 use Rattle.graph_rules.specs.Directives.{answers, keeps_root, keeps_edge, keeps_constraint, keeps_conflict, keeps_requirement, has_choice}
 use Rattle.graph_formulas.specs.Facts.{GraphWord, has_edge, has_virtual, is_in}
-use Rattle.graph_formulas.specs.Lists.{◌and◌, just_one}
+use Rattle.graph_formulas.specs.Lists.{◌and◌}
 use Rattle.graph_formulas.specs.Parts.{suits_rule, holds_rule}
 use Rattle.literal_table.proofs.Spelling.{named-so}
 use Rattle.graph_formulas.proofs.Rules.{some-kept, named-kept}

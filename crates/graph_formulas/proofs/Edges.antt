@@ -7,9 +7,8 @@ use Rattle.std.specs.Str.{bytes_eq}
 use Rattle.std.proofs.lemmas.Bool.{cases_Bool, and_parts}
 use Rattle.virtuals.specs.Virtuals.{is_virtual}
 use Rattle.clause_formulas.specs.Rules.{fact, keeps_rule}
-use Rattle.graph_core.specs.Graphs.{Text}
+use Rattle.graph_core.specs.Graphs.{Text, Content, node_of, provider_of, edge_of, no_kinds}
 use Rattle.condition_rules.specs.Words.{is_one_text, implies, if_written, is_some_and}
-use Rattle.graph_core.specs.Graphs.{Content, node_of, provider_of, edge_of}
 use Rattle.problem.specs.Nodes.{covers}
 use Rattle.graph_core.specs.declared.node.Node.{Node}
 use Rattle.graph_core.specs.declared.node.Edge.{Edge}
@@ -26,7 +25,7 @@ use Rattle.literal_table.proofs.Spelling.{named-so}
 use Rattle.graph_formulas.proofs.Rules.{given-kept, each-kept, some-kept, named-kept}
 use Rattle.graph_formulas.proofs.Kept.{by_node}
 use Rattle.graph_formulas.specs.Terms.{is_true, met_rule}
-use Rattle.graph_formulas.specs.Edges.{asked_child, no_kinds, asks_rule, may_ask, kind_rule, virtual_rule, extra_edge_rule}
+use Rattle.graph_formulas.specs.Edges.{asked_child, asks_rule, may_ask, kind_rule, virtual_rule, extra_edge_rule}
 use Rattle.graph_formulas.proofs.Directives.{LeadsToNodes, not-or, then-and}
 use Rattle.graph_formulas.proofs.ListTests.{any-filter, any-same, any-and}
 

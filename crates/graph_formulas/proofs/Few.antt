@@ -8,7 +8,7 @@ use Rattle.std.proofs.lemmas.List.{take-append-drop}
 use Rattle.std.proofs.lemmas.List.Sums.{sum_by-cons}
 use Rattle.std.proofs.lemmas.List.Folds.{sum_by-zero, list_all-append}
 use Rattle.clause_formulas.specs.Rules.{Proposition, isnt, keeps_rule, any_rule, every_rule}
-use Rattle.graph_formulas.specs.Lists.{some, first_rules, apart_rules, half_count, halves_rule, few_rules, just_one}
+use Rattle.graph_formulas.specs.Lists.{first_rules, apart_rules, half_length, halves_rule, few_rules, just_one}
 use Rattle.graph_formulas.proofs.Rules.{or-false, some-kept}
 
 -- exactly one
@@ -112,17 +112,17 @@ module _ {W T : Type 0} (p : W → Bool) (rule : T → Proposition W) (test : T 
   unfolding few_rules
   few-kept zero xs = apart-kept xs
   few-kept (suc times) xs =
-      let front = few-kept times (take (half_count xs) xs) in
-      let back = few-kept times (drop (half_count xs) xs) in
-      elim (nat_lt 8 (length xs)) as (λ b. all_kept (if b then halves_rule rule (take (half_count xs) xs) (drop (half_count xs) xs)
-      ∷ (few_rules times rule (take (half_count xs) xs) ++ few_rules times rule (drop (half_count xs) xs)) else apart_rules rule xs)
+      let front = few-kept times (take (half_length xs) xs) in
+      let back = few-kept times (drop (half_length xs) xs) in
+      elim (nat_lt 8 (length xs)) as (λ b. all_kept (if b then halves_rule rule (take (half_length xs) xs) (drop (half_length xs) xs)
+      ∷ (few_rules times rule (take (half_length xs) xs) ++ few_rules times rule (drop (half_length xs) xs)) else apart_rules rule xs)
       ≡ few test xs) [
-        | true ↦ ap (λ b. keeps_rule p (halves_rule rule (take (half_count xs) xs) (drop (half_count xs) xs)) && b)
-            (list_all-append (keeps_rule p) (few_rules times rule (take (half_count xs) xs))
-            (few_rules times rule (drop (half_count xs) xs)))
-            ∙ rw (halves-kept (take (half_count xs) xs) (drop (half_count xs) xs), front, back) refl
-            ∙ sym (few-append test (take (half_count xs) xs) (drop (half_count xs) xs))
-            ∙ ap (few test) (take-append-drop (half_count xs) xs)
+        | true ↦ ap (λ b. keeps_rule p (halves_rule rule (take (half_length xs) xs) (drop (half_length xs) xs)) && b)
+            (list_all-append (keeps_rule p) (few_rules times rule (take (half_length xs) xs))
+            (few_rules times rule (drop (half_length xs) xs)))
+            ∙ rw (halves-kept (take (half_length xs) xs) (drop (half_length xs) xs), front, back) refl
+            ∙ sym (few-append test (take (half_length xs) xs) (drop (half_length xs) xs))
+            ∙ ap (few test) (take-append-drop (half_length xs) xs)
         | false ↦ apart-kept xs
       ]
 

@@ -5,7 +5,7 @@ use Rattle.std.specs.List.{list_any, list_all}
 use Rattle.std.specs.Option.{option_and_then, is_some}
 use Rattle.std.specs.Str.{bytes_eq}
 use Rattle.std.specs.Cmp.Lexicographic.{bytes_decides}
-use Rattle.std.proofs.lemmas.Bool.{cases_Bool}
+use Rattle.std.proofs.lemmas.Bool.{cases_Bool, and_parts}
 use Rattle.version_order.specs.Sets.{set_contains}
 use Rattle.version_order.specs.declared.item.Item.{Item}
 use Rattle.spec_grammar.specs.declared.part.Part.{Part}
@@ -27,7 +27,8 @@ use Rattle.literal_table.proofs.Spelling.{named-so}
 use Rattle.graph_formulas.specs.Facts.{GraphWord, Fact, is_there, has_version, has_variant, has_value, has_compiler, has_os, has_target, node_has, provides_as, has_path, is_so, is_in}
 use Rattle.graph_formulas.specs.Lists.{◌and◌, asked_unless, where_written, each_keeps, some}
 use Rattle.problem.specs.Closure.{is_filled}
-use Rattle.graph_formulas.specs.Parts.{there_rule, values_rule, asks_rest, asks_fact, rest_rule, meets_rule, tops_rule, row_rule, provides_rule, asked_rule, suits_rule, below_rule, holds_rule, condition_rule}
+use Rattle.graph_formulas.specs.Parts.{there_rule, values_rule, asks_rest, asks_fact, rest_rule, meets_rule, tops_rule, row_rule, rows_naming, provides_rule, asked_rule, suits_rule, below_rule, holds_rule, condition_rule}
+use Rattle.graph_formulas.proofs.ListTests.{any-narrowed}
 use Rattle.graph_formulas.proofs.Rules.{given-kept, unless-so, unless-kept, written-kept, named-kept, each-kept, some-kept}
 
 -- one of a list of names, which has it
@@ -143,7 +144,9 @@ module _ (world : World) (graph : Content) where
       provides-there : (virtual : Text) (wanted : Option (List Item)) → keeps (provides_rule world name virtual wanted) ≡ provides world node virtual wanted
       unfolding provides_rule provides
       provides-there virtual wanted =
-          some-kept (is_in graph) (row_rule world name virtual wanted) (row_provides world node virtual wanted) (row-there virtual wanted) (rows (λ recipe. recipe.provides) (recipe_of world name))
+          some-kept (is_in graph) (row_rule world name virtual wanted) (row_provides world node virtual wanted) (row-there virtual wanted) (rows_naming world name virtual)
+          ∙ any-narrowed (row_provides world node virtual wanted) (λ row. bytes_eq row.name virtual)
+          (λ row holds. (and_parts (bytes_eq row.name virtual) _ (and_parts _ (lists_overlap row.versions wanted) holds).0).0) (rows (λ recipe. recipe.provides) (recipe_of world name))
           ∙ ap (λ n. list_any (row_provides world node virtual wanted) (rows (λ recipe. recipe.provides) (recipe_of world n))) (sym (named-so graph name node here))
 
       suits-there : (part : Part) (asked : Text) → keeps (suits_rule world part asked name) ≡ suits world part asked node
@@ -202,7 +205,7 @@ module _ (world : World) (graph : Content) where
 
       provides-absent : (virtual : Text) (wanted : Option (List Item)) → keeps (provides_rule world name virtual wanted) ≡ false
       unfolding provides_rule
-      provides-absent virtual wanted = none-of (rows (λ recipe. recipe.provides) (recipe_of world name))
+      provides-absent virtual wanted = none-of (rows_naming world name virtual)
         where
           none-of : (xs : List ProvideRow) → keeps (some (row_rule world name virtual wanted) xs) ≡ false
           none-of [] = refl

@@ -6,7 +6,7 @@ use Rattle.std.specs.Option.{option_eq}
 use Rattle.std.specs.Str.{bytes_eq}
 use Rattle.std.proofs.lemmas.Bool.{cases_Bool, eqb-true, eq-eqb}
 use Rattle.clause_formulas.specs.Rules.{Proposition, keeps_rule, fact, isnt, if_so}
-use Rattle.graph_core.specs.Graphs.{Text, Content, node_of, edge_of, edges_from, provider_of}
+use Rattle.graph_core.specs.Graphs.{Text, Content, node_of, edge_of, edges_from, provider_of, no_kinds}
 use Rattle.graph_core.specs.declared.node.Node.{Node}
 use Rattle.graph_core.specs.declared.node.Edge.{Edge}
 use Rattle.graph_core.specs.declared.node.Kinds.{Kinds}
@@ -20,15 +20,15 @@ use Rattle.reuse_db.specs.declared.record.Record.{Record}
 use Rattle.reuse_db.specs.declared.record.Dependency.{Dependency}
 use Rattle.literal_table.specs.Spells.{virtuals_in}
 use Rattle.std.specs.Cmp.Lexicographic.{pointwise}
-use Rattle.graph_rules.specs.Kept.{is_recorded, are_provided, same_attributes, external_node, installed_node, has_kinds, keeps_child, is_child, keeps_origin, keeps_kept}
+use Rattle.graph_rules.specs.Kept.{is_recorded, are_provided, same_attributes, external_node, has_kinds, keeps_child, is_child, keeps_origin, keeps_kept}
+use Rattle.reuse_db.specs.Installed.{installed_node}
 use Rattle.graph_rules.proofs.Lists.{In, bytes_eq-same, bytes_eq-itself}
 use Rattle.literal_table.proofs.Spelling.{named-so}
 use Rattle.graph_formulas.specs.Facts.{GraphWord, provides_as, Fact, same_variants, has_origin, has_version, has_variants, has_compiler, has_os, has_target, has_prefix, has_edge, node_has, is_in, is_so}
 use Rattle.graph_formulas.specs.Lists.{◌and◌, settled_test, one_keeps, each_keeps}
 use Rattle.graph_formulas.proofs.Rules.{given-kept, named-kept, each-kept}
 use Rattle.graph_formulas.proofs.Kept.{there}
-use Rattle.graph_formulas.specs.Edges.{no_kinds}
-use Rattle.graph_formulas.specs.Kept.{installs, same_rule, kinds_rule, is_child_name, provided_rule, joined_rule, child_rule, recorded_rule, origin_rule, kept_rule}
+use Rattle.graph_formulas.specs.Kept.{same_rule, kinds_rule, is_child_name, provided_rule, joined_rule, child_rule, recorded_rule, origin_rule, kept_rule}
 
 -- ---- origins
 

@@ -7,7 +7,7 @@ use Rattle.std.specs.List.{list_any, list_all}
 use Rattle.std.specs.Option.{is_some, option_or}
 use Rattle.clause_formulas.specs.Rules.{Proposition, keeps_rule, isnt, any_rule}
 use Rattle.condition_rules.specs.Words.{if_written, is_some_and, find_last}
-use Rattle.graph_formulas.specs.Lists.{settled_test, asked_unless, where_written, one_keeps, each_keeps, some, half_count, last_in_turn, last_of_halves, last_halved, last_one}
+use Rattle.graph_formulas.specs.Lists.{settled_test, asked_unless, where_written, one_keeps, each_keeps, some, half_length, last_in_turn, last_of_halves, last_halved, last_one}
 
 pub any-last : {T : Type 0} (f : T → Bool) (xs : List T) → list_any f xs ≡ is_some (find_last f xs)
 any-last f [] = refl
@@ -97,14 +97,14 @@ module _ {W : Type 0} (p : W → Bool) where
       unfolding last_halved
       halved-kept zero xs = in-turn-kept xs
       halved-kept (suc times) xs =
-          let front = take (half_count xs) xs in
-          let back = drop (half_count xs) xs in
+          let front = take (half_length xs) xs in
+          let back = drop (half_length xs) xs in
           elim (nat_lt 8 (length xs)) as (λ b. keeps_rule p
           (if b then last_of_halves passes back (last_halved times passes rule front) (last_halved times passes rule back)
           else last_in_turn passes rule xs) ≡ is_some_and (find_last f xs) test) [
             | true ↦ of-halves-kept back (last_halved times passes rule front) (last_halved times passes rule back) (find_last f front)
                 (halved-kept times front) (halved-kept times back)
-                ∙ ap (λ o. is_some_and o test) (sym (last-append f front back) ∙ ap (find_last f) (take-append-drop (half_count xs) xs))
+                ∙ ap (λ o. is_some_and o test) (sym (last-append f front back) ∙ ap (find_last f) (take-append-drop (half_length xs) xs))
             | false ↦ in-turn-kept xs
           ]
 

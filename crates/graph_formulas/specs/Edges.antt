@@ -1,8 +1,8 @@
 -- The rules of edges that none asks for, and of providers that none uses.
-use Rattle.std.specs.Prelude.{Bool, true, false, ◌&&◌, List, filter, if◌then◌else◌}
+use Rattle.std.specs.Prelude.{Bool, true, ◌&&◌, List, filter, if◌then◌else◌}
 use Rattle.std.specs.Str.{bytes_eq}
 use Rattle.clause_formulas.specs.Rules.{Proposition, fact, if_so}
-use Rattle.graph_core.specs.Graphs.{Text}
+use Rattle.graph_core.specs.Graphs.{Text, no_kinds}
 use Rattle.condition_rules.specs.Words.{is_one_text, is_some_and}
 use Rattle.condition_rules.specs.Worlds.{World}
 use Rattle.graph_core.specs.declared.node.Kinds.{Kinds}
@@ -13,9 +13,6 @@ pub use Rattle.graph_rules.specs.Built.{names_virtual}
 use Rattle.graph_formulas.specs.Facts.{GraphWord, provides_as, has_edge, has_virtual}
 use Rattle.graph_formulas.specs.Lists.{◌and◌, settled_test, one_keeps, each_keeps, some}
 use Rattle.graph_formulas.specs.Terms.{Term, known_rule, met_rule}
-
-abbrev pub no_kinds : Kinds
-no_kinds = record { build = false; link = false; run = false }
 
 -- a name asks for this child, where that is there: it is the child's own, or that of a virtual which the child provides
 abbrev pub asked_child : World → Text → Text → Proposition GraphWord

@@ -4,7 +4,7 @@ use Rattle.std.specs.List.{list_any}
 use Rattle.std.specs.Option.{option_eq}
 use Rattle.std.specs.Str.{bytes_eq}
 use Rattle.clause_formulas.specs.Rules.{Proposition, fact, isnt, if_so}
-use Rattle.graph_core.specs.Graphs.{Text}
+use Rattle.graph_core.specs.Graphs.{Text, no_kinds}
 use Rattle.graph_core.specs.declared.node.Node.{Node}
 use Rattle.graph_core.specs.declared.node.Kinds.{Kinds}
 use Rattle.reuse_db.specs.declared.record.Dependency.{Dependency}
@@ -15,13 +15,13 @@ use Rattle.problem.specs.Nodes.{same_origin}
 use Rattle.problem.specs.Problems.{Problem, package_entry_of, externals_in, record_at, same_compiler}
 use Rattle.problem.specs.Records.{kept_dependencies}
 use Rattle.reuse_db.specs.declared.record.Record.{Record}
-use Rattle.graph_rules.specs.Kept.{external_node, installed_node}
+use Rattle.graph_rules.specs.Kept.{external_node}
+use Rattle.reuse_db.specs.Installed.{installed_node}
 use Rattle.literal_table.specs.Choices.{choice_values}
 use Rattle.literal_table.specs.Tables.{Table, block_of}
 use Rattle.literal_table.specs.declared.block.Block.{Block}
 use Rattle.graph_formulas.specs.Facts.{GraphWord, node_has, has_origin, has_version, has_variants, has_compiler, has_os, has_target, has_prefix, has_edge, has_virtuals, provides_as}
 use Rattle.graph_formulas.specs.Lists.{◌and◌, settled_test, one_keeps, each_keeps}
-use Rattle.graph_formulas.specs.Edges.{no_kinds}
 
 -- ---- origins
 

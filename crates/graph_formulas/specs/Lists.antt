@@ -47,8 +47,8 @@ abbrev pub apart_rules : {W T : Type 0} → (T → Proposition W) → List T →
 apart_rules rule [] = []
 apart_rules rule (x ∷ xs) = first_rules rule x xs ++ apart_rules rule xs
 
-abbrev pub half_count : {T : Type 0} → List T → ℕ
-half_count xs = length xs / 2
+abbrev pub half_length : {T : Type 0} → List T → ℕ
+half_length xs = length xs / 2
 
 -- none of these keeps the rule, or none of those
 abbrev pub halves_rule : {W T : Type 0} → (T → Proposition W) → List T → List T → Proposition W
@@ -59,8 +59,8 @@ unfoldable pub few_rules : {W T : Type 0} → ℕ → (T → Proposition W) → 
 few_rules zero rule xs = apart_rules rule xs
 few_rules (suc times) rule xs =
     if nat_lt 8 (length xs)
-    then halves_rule rule (take (half_count xs) xs) (drop (half_count xs) xs)
-    ∷ (few_rules times rule (take (half_count xs) xs) ++ few_rules times rule (drop (half_count xs) xs))
+    then halves_rule rule (take (half_length xs) xs) (drop (half_length xs) xs)
+    ∷ (few_rules times rule (take (half_length xs) xs) ++ few_rules times rule (drop (half_length xs) xs))
     else apart_rules rule xs
 
 -- exactly one keeps the rule: so deep as one thing's rule, however long the list is
@@ -81,8 +81,8 @@ unfoldable pub last_halved : {W T : Type 0} → ℕ → (T → Proposition W) �
 last_halved zero passes rule xs = last_in_turn passes rule xs
 last_halved (suc times) passes rule xs =
     if nat_lt 8 (length xs)
-    then last_of_halves passes (drop (half_count xs) xs) (last_halved times passes rule (take (half_count xs) xs))
-    (last_halved times passes rule (drop (half_count xs) xs))
+    then last_of_halves passes (drop (half_length xs) xs) (last_halved times passes rule (take (half_length xs) xs))
+    (last_halved times passes rule (drop (half_length xs) xs))
     else last_in_turn passes rule xs
 
 -- there is a last one that passes, and it keeps the rule

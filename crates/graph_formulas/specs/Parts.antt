@@ -1,5 +1,5 @@
 -- What parts, specs and conditions ask, as rules over the facts of a graph.
-use Rattle.std.specs.Prelude.{Bool, ◌&&◌, ◌||◌, List, Option, is_some, if◌then◌else◌}
+use Rattle.std.specs.Prelude.{Bool, ◌&&◌, ◌||◌, List, filter, Option, is_some, if◌then◌else◌}
 use Rattle.std.specs.List.{list_any}
 use Rattle.std.specs.Str.{bytes_eq}
 use Rattle.version_order.specs.Sets.{set_contains}
@@ -63,10 +63,13 @@ abbrev pub row_rule : World → Text → Text → Option (List Item) → Provide
 row_rule world name virtual wanted row =
     if bytes_eq row.name virtual && lists_overlap row.versions wanted then tops_rule world name row.when.specs else nowhere
 
--- the node is there and provides the virtual
+-- the rows of the package that name the virtual
+abbrev pub rows_naming : World → Text → Text → List ProvideRow
+rows_naming world name virtual = filter (λ row. bytes_eq row.name virtual) (rows (λ recipe. recipe.provides) (recipe_of world name))
+
+-- the node is there and provides the virtual: of rows of other names nothing is said
 unfoldable pub provides_rule : World → Text → Text → Option (List Item) → Proposition GraphWord
-provides_rule world name virtual wanted =
-    some (row_rule world name virtual wanted) (rows (λ recipe. recipe.provides) (recipe_of world name))
+provides_rule world name virtual wanted = some (row_rule world name virtual wanted) (rows_naming world name virtual)
 
 -- the node that a name asks for keeps a rule: that of the package, or of some package that may provide the virtual
 abbrev pub asked_rule : World → (Text → List Text) → Text → (Text → Proposition GraphWord) → Proposition GraphWord

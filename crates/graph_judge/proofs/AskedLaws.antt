@@ -1,10 +1,7 @@
 -- What is asked of some roots and directives: the verdict is that no rule is broken exactly where the graph is valid
--- for these demands.
-use Rattle.std.proofs.Common.{◌≡◌, refl, sym, ap, subst, ◌∙◌, Bool, true, false, ◌&&◌, ◌||◌, ◌==◌, ℕ, ◌+◌, zero, suc, List, [], ◌∷◌, cond, ◌↔◌, Option, Some, None, inl, inr, arith, slice_get}
-use Rattle.std.specs.List.{list_all, list_any}
-use Rattle.std.specs.Option.{unwrap_or}
-use Rattle.std.specs.Str.{bytes_eq}
-use Rattle.std.proofs.lemmas.Bool.{and_parts, and_from, eq-eqb, eqb-true, or_cases}
+use Rattle.std.proofs.Common.{◌≡◌, refl, sym, ap, subst, ◌∙◌, Bool, true, false, ◌&&◌, ◌==◌, ℕ, ◌+◌, List, [], ◌∷◌, ◌↔◌, Option, Some, None, arith, slice_get}
+use Rattle.std.specs.List.{list_all}
+use Rattle.std.proofs.lemmas.Bool.{and_parts, and_from, eq-eqb, eqb-true}
 use Rattle.spec_grammar.specs.declared.part.Spec.{Spec}
 use Rattle.graph_core.specs.Graphs.{Text, Content, node_of, IsGraph}
 use Rattle.graph_core.specs.declared.node.Node.{Node}
@@ -17,136 +14,19 @@ use Rattle.problem.specs.declared.demand.Demand.{Demand}
 use Rattle.problem.specs.declared.demand.Demand.TheVariants as demand
 use Rattle.graph_rules.specs.Directives.{keeps_root, keeps_edge, keeps_constraint, keeps_conflict, keeps_requirement}
 use Rattle.graph_rules.specs.Valid.{keeps, keeps_all, structure_rules, all_rules, valid_for, keeps_demand, keeps_directive}
-use Rattle.graph_rules.specs.Verdict.{Asked, same_demand, is_among, keeps_asked_root, keeps_asked_row, keeps_asked_setting, breaks_of, broken_roots, broken_rows, broken_settings, first_broken, verdict_of, verdict_for}
+use Rattle.graph_rules.specs.Verdict.{Asked, is_among, keeps_asked_root, breaks_of, first_broken, verdict_of, verdict_for}
 use Rattle.graph_rules.specs.declared.rule.Rule.{Rule}
 use Rattle.graph_rules.specs.declared.rule.Rule.TheVariants as rules
 use Rattle.graph_rules.specs.declared.rule.Verdict.TheVariants as verdicts
-use Rattle.graph_rules.proofs.Lists.{In, list_all-each, list_all-from, find-in, node-itself, bytes_eq-same, bytes_eq-itself}
-use Rattle.graph_rules.proofs.ValidLaws.{implied, implies-from, slice_get-in, place-of, required-number, stands}
-use Rattle.graph_rules.proofs.VerdictLaws.{is_empty, is_valid, is_valid-from, failing_rows, failing_settings, step, keeps-breaks}
+use Rattle.graph_rules.proofs.Lists.{In, list_all-each, list_all-from, find-in, node-itself}
+use Rattle.graph_rules.proofs.ValidLaws.{stands}
+use Rattle.graph_rules.proofs.BuiltTests.{implied, implies-from}
+use Rattle.graph_rules.proofs.NumberedRows.{slice_get-in, place-of, required-number}
+use Rattle.graph_rules.proofs.VerdictLaws.{is_empty, is_valid, is_valid-from, step, keeps-breaks}
+use Rattle.graph_judge.proofs.BrokenPlaces.{roots-kept, roots-each, rows-kept, rows-each, settings-kept, settings-each}
+use Rattle.graph_judge.proofs.AmongDemands.{among-in, in-among}
 
--- ---- demands that are among some
-
-same_demand-is : (d e : Demand) → same_demand d e ≡ true → d ≡ e
-same_demand-is (demand.Root place) (demand.Root other) h = ap demand.Root (eqb-true place other h)
-same_demand-is (demand.Root place) (demand.Directive name number) h = absurd cc
-same_demand-is (demand.Root place) (demand.Setting name number) h = absurd cc
-same_demand-is (demand.Directive name number) (demand.Root place) h = absurd cc
-same_demand-is (demand.Directive name number) (demand.Setting other k) h = absurd cc
-same_demand-is (demand.Setting name number) (demand.Root place) h = absurd cc
-same_demand-is (demand.Setting name number) (demand.Directive other k) h = absurd cc
-same_demand-is (demand.Directive name number) (demand.Directive other k) h =
-    let parts = and_parts (bytes_eq name other) (number == k) h in
-    let first = bytes_eq-same name other parts.0 in
-    let second = eqb-true number k parts.1 in
-    λ i. demand.Directive (first i) (second i)
-same_demand-is (demand.Setting name number) (demand.Setting other k) h =
-    let parts = and_parts (bytes_eq name other) (number == k) h in
-    let first = bytes_eq-same name other parts.0 in
-    let second = eqb-true number k parts.1 in
-    λ i. demand.Setting (first i) (second i)
-
-same_demand-itself : (d : Demand) → same_demand d d ≡ true
-same_demand-itself (demand.Root place) = eq-eqb place place refl
-same_demand-itself (demand.Directive name number) = and_from _ _ (bytes_eq-itself name) (eq-eqb number number refl)
-same_demand-itself (demand.Setting name number) = and_from _ _ (bytes_eq-itself name) (eq-eqb number number refl)
-
-among-in : (asked : List Demand) (d : Demand) → is_among asked d ≡ true → In d asked
-among-in [] d h = absurd cc
-among-in (e ∷ asked) d h = elim (or_cases (same_demand d e) (is_among asked d) h) as (λ _. In d (e ∷ asked)) [
-  | inl is ↦ inl (same_demand-is d e is)
-  | inr later ↦ inr (among-in asked d later)
-]
-
-in-among : (asked : List Demand) (d : Demand) → In d asked → is_among asked d ≡ true
-in-among [] d none = absurd none
-in-among (e ∷ asked) d (inl same) = subst (λ f. list_any (same_demand d) (f ∷ asked) ≡ true) same (rw (same_demand-itself d) refl)
-in-among (e ∷ asked) d (inr later) = elim (same_demand d e) as (λ b. (b || is_among asked d) ≡ true) [
-  | true ↦ refl
-  | false ↦
-      in-among asked d later
-]
-
--- ---- roots
-
-roots-kept : (test : ℕ → Spec → Bool) (place : ℕ) (specs : List Spec)
-    → ((k : ℕ) (spec : Spec) → slice_get specs k ≡ Some spec → test (place + k) spec ≡ true)
-    → is_empty (broken_roots test place specs) ≡ true
-roots-kept test place [] each = refl
-roots-kept test place (spec ∷ specs) each =
-    let none : place + 0 ≡ place = omega arith in
-    let here : test place spec ≡ true = subst (λ n. test n spec ≡ true) none (each 0 spec refl) in
-    let rest = roots-kept test (place + 1) specs (λ k s e. let more : place + suc k ≡ place + 1 + k = omega arith in
-    subst (λ n. test n s ≡ true) more (each (suc k) s e)) in
-    elim (test place spec) as (λ b. b ≡ true → is_empty
-    (cond b (broken_roots test (place + 1) specs) ((unwrap_or spec.top.name [], place) ∷ broken_roots test (place + 1) specs)) ≡ true)
-    [ true ↦ λ h. rest | false ↦ λ h. absurd cc ] here
-
-roots-first : (test : ℕ → Spec → Bool) (place : ℕ) (spec : Spec) (specs : List Spec)
-    → is_empty (broken_roots test place (spec ∷ specs)) ≡ true
-    → (test place spec ≡ true) × (is_empty (broken_roots test (place + 1) specs) ≡ true)
-roots-first test place spec specs h =
-    elim (test place spec) as (λ b. test place spec ≡ b
-    → is_empty (cond b (broken_roots test (place + 1) specs)
-    ((unwrap_or spec.top.name [], place) ∷ broken_roots test (place + 1) specs)) ≡ true
-    → (test place spec ≡ true) × (is_empty (broken_roots test (place + 1) specs) ≡ true)) [
-      | true ↦ λ is rest. (is, rest)
-      | false ↦
-          λ is no. absurd (let wrong : false ≡ true = no in cc)
-    ] refl h
-
-roots-each : (test : ℕ → Spec → Bool) (place : ℕ) (specs : List Spec) (k : ℕ) (spec : Spec)
-    → is_empty (broken_roots test place specs) ≡ true → slice_get specs k ≡ Some spec → test (place + k) spec ≡ true
-roots-each test place [] k spec h e = absurd (let no : None ≡ Some spec = e in cc)
-roots-each test place (s ∷ specs) zero spec h e =
-    let same : s ≡ spec = cc in
-    let none : place ≡ place + 0 = omega arith in
-    subst (λ n. test n spec ≡ true) none (subst (λ t. test place t ≡ true) same (roots-first test place s specs h).0)
-roots-each test place (s ∷ specs) (suc k) spec h e =
-    let more : place + 1 + k ≡ place + suc k = omega arith in
-    subst (λ n. test n spec ≡ true) more (roots-each test (place + 1) specs k spec (roots-first test place s specs h).1 e)
-
--- ---- directives
-
-module _ (graph : Content) (made : Asked) {R : Type 0} (rows_at : Text → List R) (number : R → ℕ) (test : Node → R → Bool) where
-  abbrev Each : Type 0
-  Each = (node : Node) → In node graph.nodes → is_built node ≡ true → (row : R) → In row (rows_at node.name)
-      → made (demand.Directive node.name (number row)) ≡ true → test node row ≡ true
-
-  rows-kept : Each → is_empty (broken_rows rows_at number (keeps_asked_row made number test) graph) ≡ true
-  rows-kept each =
-      sym (failing_rows rows_at number (keeps_asked_row made number test) graph.nodes)
-      ∙ list_all-from _ graph.nodes (λ node there. implies-from (is_built node) _
-      (λ built. list_all-from _ (rows_at node.name)
-      (λ row is. implies-from (made (demand.Directive node.name (number row))) _ (λ a. each node there built row is a))))
-
-  rows-each : is_empty (broken_rows rows_at number (keeps_asked_row made number test) graph) ≡ true → Each
-  rows-each h node there built row is a =
-      let all = failing_rows rows_at number (keeps_asked_row made number test) graph.nodes ∙ h in
-      let here = implied (is_built node) _ (list_all-each
-      (λ n. implies (is_built n) (list_all (keeps_asked_row made number test n) (rows_at n.name))) graph.nodes node all there) built in
-      implied (made (demand.Directive node.name (number row))) (test node row)
-      (list_all-each (keeps_asked_row made number test node) (rows_at node.name) row here is) a
-
--- ---- requirements of the settings
-
-module _ (graph : Content) (made : Asked) (rows_at : Text → List RequireRow) (test : Node → RequireRow → Bool) where
-  abbrev EachThere : Type 0
-  EachThere = (node : Node) → In node graph.nodes → (row : RequireRow) → In row (rows_at node.name)
-      → made (demand.Setting node.name row.number) ≡ true → test node row ≡ true
-
-  settings-kept : EachThere → is_empty (broken_settings rows_at (keeps_asked_setting made test) graph) ≡ true
-  settings-kept each =
-      sym (failing_settings rows_at (keeps_asked_setting made test) graph.nodes)
-      ∙ list_all-from _ graph.nodes (λ node there. list_all-from _ (rows_at node.name)
-      (λ row is. implies-from (made (demand.Setting node.name row.number)) _ (λ a. each node there row is a)))
-
-  settings-each : is_empty (broken_settings rows_at (keeps_asked_setting made test) graph) ≡ true → EachThere
-  settings-each h node there row is a =
-      let all = failing_settings rows_at (keeps_asked_setting made test) graph.nodes ∙ h in
-      let here = list_all-each (λ n. list_all (keeps_asked_setting made test n) (rows_at n.name)) graph.nodes node all there in
-      implied (made (demand.Setting node.name row.number)) (test node row)
-      (list_all-each (keeps_asked_setting made test node) (rows_at node.name) row here is) a
+-- for these demands.
 
 -- ---- all rules
 
@@ -376,7 +256,8 @@ module _ (problem : Problem) (graph : Content) (g : IsGraph graph) (asked : List
           | None ↦ λ at. refl
           | Some row ↦ λ at.
               let number : row.number ≡ place = required-number (package_entry_of problem node.name) place row at in
-              settings-each graph (is_among asked) (required_at problem) (keeps_requirement problem graph) (unbroken rules.Required) node there
+              settings-each graph (is_among asked) (required_at problem) (keeps_requirement problem graph)
+              (unbroken rules.Required) node there
               row (slice_get-in (required_at problem node.name) place row at)
               (in-among asked (demand.Setting node.name row.number)
               (subst (λ n. In (demand.Setting node.name n) asked) (sym number) is_asked))

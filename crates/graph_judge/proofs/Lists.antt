@@ -49,7 +49,8 @@ pub settings_flat : (made : Asked) (rows_at : Text → List RequireRow) (test : 
     ≡ flat_map (λ node. map (λ row. let p : Place = (node.name, row.number) in
     p) (filter (λ row. not (keeps_asked_setting made test node row)) (rows_at node.name))) nodes
 settings_flat made rows_at test nodes =
-    flat_map-same _ _ (λ node. flat_unless (keeps_asked_setting made test node) (λ (row : RequireRow). let p : Place = (node.name, row.number) in
+    flat_map-same _ _ (λ node. flat_unless (keeps_asked_setting made test node) (λ (row : RequireRow). let p : Place =
+    (node.name, row.number) in
     p) (rows_at node.name)) nodes
 
 -- what is left of a list, one element further on

@@ -51,7 +51,8 @@ module _ {R X : Type 0} (p q : R → Bool) (f : R → Option X) where
       let more = filter_map f (filter p kept) in
       elim (q row) as (λ b. cond (p row && b) (option_to_list (f row)) [] ++ more ≡ filter_map f (filter p (cond b (row ∷ kept) kept))) [
         | true ↦
-            elim (p row) as (λ a. cond (a && true) (option_to_list (f row)) [] ++ more ≡ filter_map f (cond a (row ∷ filter p kept) (filter p kept)))
+            elim (p row) as (λ a. cond (a && true) (option_to_list (f row)) []
+            ++ more ≡ filter_map f (cond a (row ∷ filter p kept) (filter p kept)))
             [ true ↦ cons_is (f row) more | false ↦ refl ]
         | false ↦ elim (p row) as (λ a. cond (a && false) (option_to_list (f row)) [] ++ more ≡ more) [ true ↦ refl | false ↦ refl ]
       ]

@@ -3,7 +3,7 @@ ghost use Rattle.std.specs.Prelude.{◌≡◌, ◌++◌, flat_map, map, IfOk, On
 ghost use Rattle.std.specs.Option.{option_to_list};
 ghost use Rattle.graph_core.specs.Graphs.{node_of};
 ghost use Rattle.problem.specs.OfVirtuals.Virtuals.{is_virtual};
-ghost use Rattle.graph_rules.specs.Named.{answered_virtuals, is_on_virtual, named, named_edge, named_from};
+ghost use Rattle.graph_rules.specs.Named.{answered_virtuals, is_on_virtual, named_graph, named_edge, named_from};
 ghost use Rattle.graph_judge.specs.Answered.{answered};
 
 use condition_rules::Paths;
@@ -20,9 +20,9 @@ use std::alloc::{AllocError, Global};
 /// # Errors
 ///
 /// Want of memory alone.
-#[tactic(auto, unfolding(graph_rules::specs::Named::named))]
+#[tactic(auto, unfolding(graph_rules::specs::Named::named_graph))]
 pub fn name_virtuals(alloc: Global, problem: &Problem, graph: &Graph) -> Result<Graph, AllocError>
-    ensures { IfOk result (λ made. made ≡ named problem.now graph.now) }
+    ensures { IfOk result (λ made. made ≡ named_graph problem.now graph.now) }
 {
     let explored = Explored::new(alloc, graph)?;
     let nodes = copied_nodes(alloc, graph.nodes())?;

@@ -1,13 +1,13 @@
 -- What the calls that add clauses promise, as stages.
-use Rattle.std.proofs.Common.{◌≡◌, ◌↔◌, ℕ, ◌+◌, ◌<◌, ◌≤◌, Bool, true, false, not, ◌&&◌, ◌||◌, List, [], ◌∷◌, map, refl, sym, ap, ◌∙◌, arith}
+use Rattle.std.proofs.Common.{◌≡◌, ℕ, ◌+◌, ◌≤◌, Bool, true, false, List, [], ◌∷◌, map, refl, sym, ap, ◌∙◌}
 use Rattle.std.specs.List.{list_all}
 use Rattle.std.proofs.lemmas.List.{append-nil}
 use Rattle.std.proofs.Math.Seq.{drop-length}
 use Rattle.clause_store.specs.declared.Label.TheVariants.{Structure}
-use Rattle.clause_store.specs.Clauses.{Clauses, Meets, AllInRange}
-use Rattle.clause_circuits.specs.Growth.{Agree, Grows, MeetsSince, Says as ClausesSay, where_asked}
-use Rattle.clause_circuits.proofs.Composed.{whole, since, Grows-from}
-use Rattle.clause_formulas.specs.Statements.{Statement, eval, any_statement}
+use Rattle.clause_store.specs.Clauses.{Clauses}
+use Rattle.clause_circuits.specs.Growth.{Grows, MeetsSince, Says as ClausesSay, where_asked}
+use Rattle.clause_circuits.proofs.Composed.{Grows-from}
+use Rattle.clause_formulas.specs.Statements.{Statement, eval}
 use Rattle.clause_formulas.specs.declared.defined.Defined.{Defined}
 use Rattle.clause_formulas.specs.Drafts.{statement_at, part_at}
 use Rattle.clause_formulas.specs.Gated.{Gated, Fits}

@@ -1,11 +1,11 @@
 -- Bits that compare as numbers do.
-use Rattle.std.proofs.Common.{◌≡◌, ℕ, Bool, List, refl, sym, ap, ◌∙◌}
+use Rattle.std.proofs.Common.{ℕ, Bool, List, refl, sym, ap, ◌∙◌}
 use Rattle.clause_store.specs.declared.Lit.{Lit}
 use Rattle.clause_store.specs.Clauses.{Clauses, Meets}
 use Rattle.clause_circuits.specs.Growth.{Grows}
 use Rattle.graph_levels.proofs.Growing.{meets-parts}
-use Rattle.criteria_totals.specs.Spellings.{compare_bits, compare_numbers}
-use Rattle.criteria_totals.specs.Totals.{sums, values_at, IsTotals}
+use Rattle.criteria_totals.specs.Spellings.{compare_numbers}
+use Rattle.criteria_totals.specs.Totals.{sums, IsTotals}
 use Rattle.graph_levels.specs.Stages.{Nothing, Models, Stage}
 use Rattle.graph_levels.specs.Bits.{SumsAre, Ranks, IsLeastModel, IsBest}
 

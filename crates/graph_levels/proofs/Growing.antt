@@ -1,11 +1,11 @@
 -- Stages one after the other.
-use Rattle.std.proofs.Common.{◌≡◌, ◌↔◌, ℕ, ◌<◌, ◌≤◌, Bool, List, ◌++◌, refl, sym, subst, arith}
+use Rattle.std.proofs.Common.{◌≡◌, ℕ, ◌≤◌, Bool, sym, subst, arith}
 use Rattle.clause_store.specs.Clauses.{Clauses, Meets, AllInRange}
 use Rattle.clause_store.proofs.Entries.{Meets-append, Meets-parts}
 use Rattle.clause_store.proofs.Range.{AllInRange-le, AllInRange-append}
 use Rattle.clause_circuits.specs.Growth.{Agree, Grows, MeetsSince}
 use Rattle.clause_circuits.proofs.Composed.{since, whole, Grows-trans, MeetsSince-parts, MeetsSince-join, Meets-agree, Agree-trans}
-use Rattle.graph_levels.specs.Stages.{Both, Nothing, IsLocal, Models, Stage, Decodes}
+use Rattle.graph_levels.specs.Stages.{Both, IsLocal, Models, Stage, Decodes}
 
 -- what is asked for of a longer list
 pub meets-parts : (a b : Clauses) (asked v : ℕ → Bool) → Grows a b → Meets asked v b.entries → Meets asked v a.entries

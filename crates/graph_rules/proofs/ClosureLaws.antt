@@ -10,7 +10,7 @@ use Rattle.problem.specs.OfKeyedLists.Keyed.{find_key}
 use Rattle.std.specs.Ordering.{eq_by_cmp}
 use Rattle.std.specs.Cmp.Lexicographic.{bytes_decides}
 use Rattle.std.proofs.lemmas.List.Elements.{All-contains}
-use Rattle.problem.specs.OfConditionRules.Words.{is_one_text, if_written, is_some_and}
+use Rattle.problem.specs.OfConditionRules.Words.{is_one_text, if_written}
 use Rattle.reachability.specs.Paths.{JoinsEach}
 use Rattle.reachability.proofs.CountLaws.{image_of}
 use Rattle.reachability.proofs.SpreadLaws.{reaches_decides}
@@ -31,7 +31,8 @@ use Rattle.problem.specs.OfRecipeData.DependRow.{DependRow}
 use Rattle.problem.specs.OfRecipeData.Recipe.{Recipe}
 use Rattle.problem.specs.Problems.{world_of, recipe_at, depends_at, package_entry_of, externals_in, is_buildable_in, record_at, asked_by, Problem}
 use Rattle.graph_rules.specs.Built.{keeps_buildable, keeps_extra_edge, is_asked, asking, asked_kinds}
-use Rattle.graph_rules.specs.Kept.{same_attributes, installed_node, is_child, keeps_origin, keeps_kept}
+use Rattle.graph_rules.specs.Kept.{same_attributes, is_child, keeps_origin, keeps_kept}
+use Rattle.problem.specs.OfReuseDb.Installed.{installed_node}
 use Rattle.problem.specs.Records.{kept_dependencies}
 use Rattle.graph_rules.specs.Whole.{keeps_provider, keeps_reachable}
 use Rattle.graph_rules.specs.Valid.{keeps, keeps_all, structure_rules}
@@ -39,7 +40,8 @@ use Rattle.problem.specs.Closure.{is_filled, is_known, possible_providers, possi
 use Rattle.problem.specs.OfReuseDb.Record.{Record}
 use Rattle.graph_rules.specs.declared.rule.Rule.{Rule}
 use Rattle.graph_rules.specs.declared.rule.Rule.TheVariants as rules
-use Rattle.graph_rules.proofs.ValidLaws.{at_built, implied, slice_get-in, row-of}
+use Rattle.graph_rules.proofs.BuiltTests.{at_built, implied}
+use Rattle.graph_rules.proofs.NumberedRows.{slice_get-in, row-of}
 
 -- ---- a graph that keeps the rules which are always asked
 
@@ -151,7 +153,8 @@ module _ (problem : Problem) (graph : Content) (g : IsGraph graph) (k : keeps_al
   unfolding is_virtual provides_name
   virtual-there name p there =
       let image = from_map (λ (recipe : Recipe). recipe.name) _ p there in
-      let from = from_filter (λ (recipe : Recipe). list_any (λ row. bytes_eq row.name name) recipe.provides) problem.recipes image.0 image.1 in
+      let from = from_filter (λ (recipe : Recipe). list_any (λ row. bytes_eq row.name name) recipe.provides) problem.recipes
+      image.0 image.1 in
       in-any (λ (recipe : Recipe). list_any (λ row. bytes_eq row.name name) recipe.provides) problem.recipes image.0 from.0 from.1
 
   -- some row asks for an edge that is asked for

@@ -10,12 +10,14 @@ use Rattle.problem.specs.OfGraphCore.Compiler.{Compiler}
 use Rattle.problem.specs.OfGraphCore.OriginVariants.{External, Installed}
 use Rattle.graph_rules.proofs.Lists.{some-and, bytes_eq-same}
 use Rattle.problem.specs.Problems.{same_compiler, package_entry_of, externals_in, record_at, Problem}
-use Rattle.graph_rules.specs.Kept.{Variants, same_variants, same_attributes, installed_node, external_node, keeps_origin, keeps_kept}
+use Rattle.graph_rules.specs.Kept.{Variants, same_variants, same_attributes, external_node, keeps_origin, keeps_kept}
+use Rattle.problem.specs.OfReuseDb.Installed.{installed_node}
 use Rattle.problem.specs.OfSiteSettings.ExternalEntry.{ExternalEntry}
 use Rattle.problem.specs.OfReuseDb.Record.{Record}
 
 -- lists whose elements are equal by a test are equal
-pub lists-same : {X : Type 0} (e : X → X → Bool) → ((x y : X) → e x y ≡ true → x ≡ y) → (xs ys : List X) → pointwise e xs ys ≡ true → xs ≡ ys
+pub lists-same : {X : Type 0} (e : X → X → Bool) → ((x y : X) → e x y ≡ true → x ≡ y) → (xs ys : List X)
+    → pointwise e xs ys ≡ true → xs ≡ ys
 lists-same e same [] [] h = refl
 lists-same e same [] (y ∷ ys) h = absurd cc
 lists-same e same (x ∷ xs) [] h = absurd cc

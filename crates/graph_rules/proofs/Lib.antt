@@ -7,3 +7,5 @@ pub mod ClosureLaws
 pub mod LeastLaws
 pub mod Places
 pub mod BestLaws
+pub mod NumberedRows
+pub mod BuiltTests

@@ -137,7 +137,8 @@ some-and None p h = absurd cc
 some-and (Some x) p h = (x, refl, h)
 
 -- the value that the second step began with
-pub and_then : {S T : Type 0} (f : S → Option T) (o : Option S) (y : T) → option_and_then f o ≡ Some y → (x : S) × (o ≡ Some x) × (f x ≡ Some y)
+pub and_then : {S T : Type 0} (f : S → Option T) (o : Option S) (y : T) → option_and_then f o ≡ Some y → (x : S) × (o ≡ Some x)
+    × (f x ≡ Some y)
 and_then f None y e = absurd (let wrong : None ≡ Some y = e in cc)
 and_then f (Some x) y e = (x, refl, e)
 

@@ -18,6 +18,7 @@ use Rattle.problem.specs.Problems.{variants_at, package_entry_of, externals_in, 
 use Rattle.problem.specs.OfSiteSettings.ExternalEntry.{ExternalEntry}
 use Rattle.problem.specs.OfReuseDb.Dependency.{Dependency}
 use Rattle.problem.specs.OfReuseDb.Record.{Record}
+use Rattle.problem.specs.OfReuseDb.Installed.{installed_node}
 use Rattle.problem.specs.Records.{kept_dependencies}
 
 -- ---- attributes
@@ -71,18 +72,6 @@ external_node problem name place entry =
     }
 
 -- ---- installed nodes
-
-unfoldable pub installed_node : Record → Node
-installed_node entry = record {
-  name = entry.name;
-  version = entry.version;
-  variants = entry.variants;
-  compiler = entry.compiler;
-  os = entry.os;
-  target = entry.target;
-  prefix = entry.external;
-  origin = Installed entry.hash;
-}
 
 -- an edge has the kinds link and run alone, as recorded
 abbrev pub has_kinds : Kinds → Edge → Bool

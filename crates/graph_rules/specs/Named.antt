@@ -8,7 +8,7 @@ use Rattle.problem.specs.OfConditionRules.Words.{is_some_and}
 use Rattle.problem.specs.OfRecipeData.DependRow.{DependRow}
 use Rattle.problem.specs.OfVirtuals.Virtuals.{is_virtual}
 use Rattle.problem.specs.Nodes.{is_built}
-use Rattle.problem.specs.Problems.{depends_at, Problem}
+use Rattle.problem.specs.Problems.{Problem}
 use Rattle.graph_rules.specs.Built.{asking}
 
 -- the row of `depends_on` is on a virtual
@@ -29,5 +29,5 @@ abbrev pub named_edge : Problem → Content → Edge → Edge
 named_edge problem graph e = record e { virtuals = named_from problem graph e (node_of graph e.parent) }
 
 -- the graph, each of whose edges names its virtuals
-unfoldable pub named : Problem → Content → Content
-named problem graph = record graph { edges = map (named_edge problem graph) graph.edges }
+unfoldable pub named_graph : Problem → Content → Content
+named_graph problem graph = record graph { edges = map (named_edge problem graph) graph.edges }

@@ -36,7 +36,8 @@ keeps rules.Conflict problem graph = each_built (λ node. list_all (keeps_confli
     graph
 keeps rules.Requirement problem graph =
     each_built (λ node. list_all (keeps_requirement problem graph node) (requirements_at problem node.name)) graph
-keeps rules.Required problem graph = list_all (λ node. list_all (keeps_requirement problem graph node) (required_at problem node.name)) graph.nodes
+keeps rules.Required problem graph = list_all (λ node. list_all (keeps_requirement problem graph node) (required_at problem node.name))
+    graph.nodes
 keeps rules.Kept problem graph = list_all (keeps_kept problem graph) graph.nodes
 keeps rules.Provider problem graph = list_all (keeps_provider problem graph) graph.providers
 keeps rules.UnusedProvider problem graph = list_all (keeps_used graph) graph.providers

@@ -96,6 +96,7 @@ module _ (files : Files) (words : List (List ℕ)) (command : Command) (is : com
               (λ left. get left path ≡ Some (lock_of problem solved.graph))) same put);
         }
 
+    -- Done by `concretize`: LOCK holds a cheapest valid graph
     pub concretized : command.work ≡ works.Concretize → IsDone meaning files words after out err
         → Reads files command (LeavesCheapest after command.lock)
     concretized work done =
@@ -109,6 +110,7 @@ module _ (files : Files) (words : List (List ℕ)) (command : Command) (is : com
           holds = leaves posed.input.problem (lock_path words) (cert_path words) at_lock finished;
         }
 
+    -- Unsatisfiable by `concretize`: no graph is valid
     pub none : command.work ≡ works.Concretize → IsUnsatisfiable meaning files words after out err → Reads files command said.HasNone
     none work unsatisfiable =
         let posed = solve files words command is unsatisfiable.task unsatisfiable.read work in
@@ -117,6 +119,7 @@ module _ (files : Files) (words : List (List ℕ)) (command : Command) (is : com
         posed.is_task unsatisfiable.none in
         record { input = posed.input; read = posed.read; holds = none_of posed.input.problem unsolved.none }
 
+    -- Undecided by `concretize`: the budget was spent
     pub undecided : command.work ≡ works.Concretize → IsUndecided meaning files words after out err → Reads files command IsSpent
     undecided work undone =
         let posed = solve files words command is undone.task undone.read work in
@@ -131,14 +134,15 @@ module _ (files : Files) (words : List (List ℕ)) (command : Command) (is : com
 
     -- ---- `explain` and `reasons`
 
-    told_done : (input : Input) → IsTold meaning (tasks.Explain input) outcomes.Solved (Some files) after out.0 out.1 → HasGraph input.problem
+    told_done : (input : Input) → IsTold meaning (tasks.Explain input) outcomes.Solved (Some files) after out.0 out.1
+        → HasGraph input.problem
     told_done input told = by_explanation told.tells.explanation told.tells.explains told.tells.is_outcome
       where
         by_explanation : (e : Explanation) → Explains input.problem input.problem.settings.conflict_budget e
             → outcomes.Solved ≡ explanation_outcome e → HasGraph input.problem
         by_explanation explanations.Satisfiable has is = (has.graph, has.well_formed, has.is_valid)
-        by_explanation (explanations.Unmet numbers) has is = absurd (let no : outcomes.Solved ≡ outcomes.Unsolved = is in cc)
-        by_explanation explanations.Undecided has is = absurd (let no : outcomes.Solved ≡ outcomes.Undecided = is in cc)
+        by_explanation (explanations.Unmet numbers log) has is = absurd (let no : outcomes.Solved ≡ outcomes.Unsolved = is in cc)
+        by_explanation (explanations.Undecided log) has is = absurd (let no : outcomes.Solved ≡ outcomes.Undecided = is in cc)
 
     told_none : (input : Input) → IsTold meaning (tasks.Explain input) outcomes.Unsolved (Some files) after out.0 out.1
         → AreUnmetAlone out input.problem
@@ -147,13 +151,14 @@ module _ (files : Files) (words : List (List ℕ)) (command : Command) (is : com
         by_explanation : (e : Explanation) → Explains input.problem input.problem.settings.conflict_budget e
             → outcomes.Unsolved ≡ explanation_outcome e → told.text ≡ explanation_text input.problem e → AreUnmetAlone out input.problem
         by_explanation explanations.Satisfiable has is text = absurd (let no : outcomes.Unsolved ≡ outcomes.Solved = is in cc)
-        by_explanation (explanations.Unmet numbers) has is text = record {
+        by_explanation (explanations.Unmet numbers log) has is text = record {
           numbers = numbers;
           said = told.out ∙ ap (and_said out.0) text;
           unmet = has.alone;
         }
-        by_explanation explanations.Undecided has is text = absurd (let no : outcomes.Unsolved ≡ outcomes.Undecided = is in cc)
+        by_explanation (explanations.Undecided log) has is text = absurd (let no : outcomes.Unsolved ≡ outcomes.Undecided = is in cc)
 
+    -- Done by `explain`: some graph is valid
     pub satisfiable : command.work ≡ works.Explain → IsDone meaning files words after out err → Reads files command HasGraph
     satisfiable work done =
         let posed = explain files words command is done.task done.read work in
@@ -162,7 +167,9 @@ module _ (files : Files) (words : List (List ℕ)) (command : Command) (is : com
         posed.is_task done.finished in
         record { input = posed.input; read = posed.read; holds = told_done posed.input told }
 
-    pub explained : command.work ≡ works.Explain → IsUnsatisfiable meaning files words after out err → Reads files command (AreUnmetAlone out)
+    -- Unsatisfiable by `explain`: no graph is valid for the demands that were said
+    pub explained : command.work ≡ works.Explain → IsUnsatisfiable meaning files words after out err
+        → Reads files command (AreUnmetAlone out)
     explained work unsatisfiable =
         let posed = explain files words command is unsatisfiable.task unsatisfiable.read work in
         let told : IsTold meaning (tasks.Explain posed.input) outcomes.Unsolved (Some files) after out.0 out.1 =
@@ -198,6 +205,7 @@ module _ (files : Files) (words : List (List ℕ)) (command : Command) (is : com
         }
         by_explanation (least.Undecided numbers log) has is text = absurd (let no : outcomes.Unsolved ≡ outcomes.Undecided = is in cc)
 
+    -- Unsatisfiable by `reasons`: so it is, and for all of them but one a graph is
     pub reduced : command.work ≡ works.Reasons → IsUnsatisfiable meaning files words after out err → Reads files command (IsLeastAlone out)
     reduced work unsatisfiable =
         let posed = reasons files words command is unsatisfiable.task unsatisfiable.read work in
@@ -243,24 +251,29 @@ module _ (files : Files) (words : List (List ℕ)) (command : Command) (is : com
       (subst (λ (c : Command). IsShownOver (OutdoneBy c.work) (files_for c.work files) c)
       (same_command files words command is shown.command shown.named) shown.outdone)
 
+  -- Done by `check`: LOCK holds a cheapest valid graph
   pub checked : command.work ≡ works.Check → HasShown files words → Reads files command (IsCheapestAt files command.lock)
   checked work shown = let over = shown_by shown works.Check work in
       record { input = over.input; read = over.read; holds = best_lock over.input.problem over.shown }
 
+  -- Done by `fresh`: so it does
   pub fresh : command.work ≡ works.Fresh → HasShown files words → Reads files command (IsCheapestAt files command.lock)
   fresh work shown = let over = shown_by shown works.Fresh work in
       record { input = over.input; read = over.read; holds = best_lock over.input.problem over.shown }
 
+  -- Stale by `fresh`: a valid graph costs less than that of LOCK
   pub stale : command.work ≡ works.Fresh → HasOutdone files words → Reads files command (IsBeaten files command.lock)
   stale work shown = let over = outdone_by shown works.Fresh work in
       record { input = over.input; read = over.read; holds = outdone_lock over.input.problem over.shown }
 
+  -- Done by `refute`: no graph is valid
   pub refuted : command.work ≡ works.Refute → HasShown files words → Reads files command said.HasNone
   refuted work shown = let over = shown_by shown works.Refute work in
       record { input = over.input; read = over.read; holds = none_of over.input.problem over.shown }
 
 -- ---- refusals, and what is answered
 
+-- a refusal changes no file, and is the one line that was said
 pub refused : (files : Files) (words : List (List ℕ)) (answer : Status) (after : Option Files) (out err : Spoken)
     → IsRefused meaning files words answer after out err → IsTurnedAway files after out err
 refused files words answer after out err away = record {
@@ -270,6 +283,7 @@ refused files words answer after out err away = record {
   errors = away.errors;
 }
 
+-- an answer that settles a run is one of these five
 pub settled : (status : Status) → Settles status → IsSettled status
 settled statuses.Done is = inl refl
 settled statuses.Unsatisfiable is = inr (inl refl)

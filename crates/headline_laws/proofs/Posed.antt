@@ -18,7 +18,8 @@ abbrev OverBy : Work → Bool → Files → Command → Result Task Refusal → 
 OverBy work true files command = Then (Seeks files command) (λ query. Is (Ok (tasks.Find query)))
 OverBy work false files command = Then (ReadsInput files command) (TaskBy any_verdict work files command)
 
-over_by : (search : Bool) (files : Files) (command : Command) (posed : Result Task Refusal) → OverUnless any_verdict search files command posed
+over_by : (search : Bool) (files : Files) (command : Command) (posed : Result Task Refusal)
+    → OverUnless any_verdict search files command posed
     → OverBy command.work search files command posed
 over_by true files command posed over = over
 over_by false files command posed over = over
@@ -47,14 +48,17 @@ module _ (files : Files) (words : List (List ℕ)) (command : Command) (is : com
       pub read : ReadsInput files command (Ok input)
       pub is_task : task ≡ make input
 
+    -- `concretize` poses the search for a best graph
     pub solve : command.work ≡ works.Concretize → PosesBy (λ input. tasks.Solve input)
     solve same = let (input, read, made) = posed_by works.Concretize same in
         record { input = input; read = read; is_task = ok_same task (tasks.Solve input) made }
 
+    -- `explain` poses the search for reasons
     pub explain : command.work ≡ works.Explain → PosesBy (λ input. tasks.Explain input)
     explain same = let (input, read, made) = posed_by works.Explain same in
         record { input = input; read = read; is_task = ok_same task (tasks.Explain input) made }
 
+    -- `reasons` poses the search for a least list of them
     pub reasons : command.work ≡ works.Reasons → PosesBy (λ input. tasks.Reasons input)
     reasons same = let (input, read, made) = posed_by works.Reasons same in
         record { input = input; read = read; is_task = ok_same task (tasks.Reasons input) made }

@@ -18,9 +18,8 @@ use Rattle.run_output.specs.Inputs.{ReadsInput}
 use Rattle.run_output.specs.Input.{Input}
 use Rattle.run_output.specs.Words.{Command}
 use Rattle.run_output.specs.Locks.{lock_of}
-use Rattle.run_output.specs.Texts.{explanation_text}
+use Rattle.run_output.specs.DemandTexts.{reasons_text}
 use Rattle.run_output.specs.LeastTexts.{least_explanation_text}
-use Rattle.run_output.specs.Explanation.TheVariants as explanations
 use Rattle.run_output.specs.LeastExplanation.TheVariants as least
 
 -- the command reads a problem over these files, of which this holds
@@ -87,7 +86,7 @@ AreUnmet problem numbers = (graph : Content) → IsWellFormed graph → valid_fo
 -- demands were said, and no graph is valid for them alone
 pub record AreUnmetAlone (out : Spoken) (problem : Problem) : Type 0 where
   pub numbers : List ℕ
-  pub said : out.1 ≡ and_said out.0 (explanation_text problem (explanations.Unmet numbers))
+  pub said : out.1 ≡ and_said out.0 (reasons_text problem numbers)
   pub unmet : AreUnmet problem numbers
 
 -- and for each of them some graph is valid for all others: none can be left out

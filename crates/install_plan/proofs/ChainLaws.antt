@@ -1,5 +1,5 @@
 -- Chains down the waves.
-use Rattle.std.proofs.Common.{◌≡◌, ◌↔◌, refl, sym, ap, subst, ◌∙◌, ℕ, zero, suc, ◌+◌, ◌-◌, ◌<◌, ◌≤◌, Bool, true, List, [], ◌∷◌, ◌++◌, length, get_or, take, reverse, All, Contains, Option, Some, None, is_some, IsTrue, Bor, ◌⊎◌, inl, inr, ⊎_elim, arith}
+use Rattle.std.proofs.Common.{◌≡◌, ◌↔◌, refl, sym, ap, subst, ◌∙◌, ℕ, zero, suc, ◌+◌, ◌-◌, ◌<◌, ◌≤◌, Bool, true, List, [], ◌∷◌, ◌++◌, length, get_or, take, reverse, All, Contains, Option, Some, None, is_some, IsTrue, Bor, ◌⊎◌, ⊎_elim, arith}
 use Rattle.std.proofs.lemmas.Bool.{cases_lt, false≢true}
 use Rattle.std.proofs.lemmas.List.{get_or-reverse, get_or_default, length-reverse, take_more, take_all}
 use Rattle.std.proofs.lemmas.List.Elements.{All-get_or, All-head, All-tail, All-cons, All-nil, All-from_get_or, Contains-get_or}
@@ -19,7 +19,7 @@ use Rattle.graph_core.proofs.OfKeyedLists.RiseLaws.{rises_above, rises_rest}
 use Rattle.keyed_lists.proofs.LookupLaws.{find_sound}
 use Rattle.graph_core.proofs.PairLaws.{pair_total, pair_exact}
 use Rattle.install_plan.specs.Schedules.{IsBuilt, IsSchedule, AreWaves, wave_at}
-use Rattle.install_plan.specs.Chains.{IsLeast, Follows, GoesDown, IsChain}
+use Rattle.install_plan.specs.Chains.{IsLeast, MayComeBelow, GoesDown, IsChain}
 use Rattle.install_plan.specs.Steps.{last_or, HasNext, GoDown}
 
 -- ---- the least
@@ -34,7 +34,8 @@ rises_at : (names : List Text) → IsStrictlySortedBy byte_cmp names → (i j : 
     → byte_cmp (get_or names i []) (get_or names j []) ≡ Less
 rises_at [] order i j less lt = absurd (omega (arith, lt))
 rises_at (x ∷ xs) order i zero less lt = absurd (omega (arith, less))
-rises_at (x ∷ xs) order zero (suc j) less lt = rises_above byte_cmp x xs order (get_or xs j []) (Contains-get_or xs j [] (omega (arith, lt)))
+rises_at (x ∷ xs) order zero (suc j) less lt =
+    rises_above byte_cmp x xs order (get_or xs j []) (Contains-get_or xs j [] (omega (arith, lt)))
 rises_at (x ∷ xs) order (suc i) (suc j) less lt = rises_at xs (rises_rest byte_cmp x xs order) i j (omega (arith, less)) (omega (arith, lt))
 
 -- the first name in order that passes is the least
@@ -67,7 +68,7 @@ some_passes names done Passes all none name has passes = none has.0 (omega (arit
 module _ (g : Content) where
   -- one name more, of the next wave
   pub goes_further : (above : Option Text) (waves : List (List Text)) (names : List Text) (wave : List Text) (name : Text)
-      → GoesDown g above waves names → IsLeast (λ x. Contains wave x × Follows g (last_or above names) x) name
+      → GoesDown g above waves names → IsLeast (λ x. Contains wave x × MayComeBelow g (last_or above names) x) name
       → GoesDown g above (waves ++ wave ∷ []) (names ++ name ∷ [])
   goes_further above [] [] wave name down least = (least, tt)
   goes_further above [] (n ∷ names) wave name down least = elim down [ ]
@@ -79,7 +80,8 @@ module _ (g : Content) where
   last_push above (n ∷ names) name = last_push (Some n) names name
 
   -- as many names as waves
-  pub as_many : (above : Option Text) (waves : List (List Text)) (names : List Text) → GoesDown g above waves names → length names ≡ length waves
+  pub as_many : (above : Option Text) (waves : List (List Text)) (names : List Text) → GoesDown g above waves names
+      → length names ≡ length waves
   as_many above [] [] down = refl
   as_many above [] (n ∷ names) down = elim down [ ]
   as_many above (w ∷ waves) [] down = elim down [ ]
@@ -134,7 +136,8 @@ module _ (g : Content) where
   -- ---- one name
 
   -- what a look-up of an edge tells
-  pub edge_tells : (p q : Text) (o : Option (Bor Edge)) (is : Bool) → option_copied o ≡ edge_of g p q → is ≡ is_some o → IsTrue is ↔ JoinedIn g p q
+  pub edge_tells : (p q : Text) (o : Option (Bor Edge)) (is : Bool) → option_copied o ≡ edge_of g p q → is ≡ is_some o → IsTrue is
+      ↔ JoinedIn g p q
   edge_tells p q None is found told = (
     λ t. absurd (false≢true (sym told ∙ t)),
     λ joined.
@@ -168,9 +171,11 @@ module _ (g : Content) where
       some = of_above above refl;
     }
       where
-        of_above : (a : Option Text) → above ≡ a → (name : Text) × Contains (wave_at waves (length waves - 1 - done)) name × Follows g a name
+        of_above : (a : Option Text) → above ≡ a → (name : Text) × Contains (wave_at waves (length waves - 1 - done)) name
+            × MayComeBelow g a name
         of_above None e =
-            let name = All-get_or (λ names. (x : Text) × Contains names x) waves (length waves - 1 - done) [] (omega (arith, lt)) go.filled in
+            let name = All-get_or (λ names. (x : Text) × Contains names x) waves (length waves - 1 - done) []
+            (omega (arith, lt)) go.filled in
             (name.0, name.1, tt)
         of_above (Some parent) e =
             let there = so_far.there parent e in
@@ -179,14 +184,14 @@ module _ (g : Content) where
             (subst (λ place. Contains (wave_at waves place) parent) next there.1)
 
     -- a name that follows is one more of the chain
-    pub one_down : (name : Text) → IsLeast (λ x. Contains (wave_at waves (length waves - 1 - done)) x × Follows g above x) name
+    pub one_down : (name : Text) → IsLeast (λ x. Contains (wave_at waves (length waves - 1 - done)) x × MayComeBelow g above x) name
         → IsDown waves (done + 1) (Some name) (chain ++ name ∷ [])
     one_down name least = record {
       down =
           let in_reverse : done < length (reverse waves) = omega (arith, lt, length-reverse waves) in
           rw (take_more (reverse waves) done [] in_reverse, get_or-reverse waves done [] lt)
           (goes_further None (take done (reverse waves)) chain (wave_at waves (length waves - 1 - done)) name so_far.down
-          (subst (λ a. IsLeast (λ x. Contains (wave_at waves (length waves - 1 - done)) x × Follows g a x) name) (sym so_far.last) least));
+          (subst (λ a. IsLeast (λ x. Contains (wave_at waves (length waves - 1 - done)) x × MayComeBelow g a x) name) (sym so_far.last) least));
       last = last_push None chain name;
       there = λ parent e.
           let same : name ≡ parent = cc in
@@ -199,4 +204,5 @@ module _ (g : Content) where
 
   pub down_all : (waves : List (List Text)) (done : ℕ) (above : Option Text) (chain : List Text) → IsDown waves done above chain
       → length waves ≤ done → IsChain g waves chain
-  down_all waves done above chain is le = subst (λ ws. GoesDown g None ws chain) (take_all done (reverse waves) (omega (arith, le, length-reverse waves))) is.down
+  down_all waves done above chain is le = subst (λ ws. GoesDown g None ws chain)
+      (take_all done (reverse waves) (omega (arith, le, length-reverse waves))) is.down

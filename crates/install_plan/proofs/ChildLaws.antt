@@ -1,19 +1,18 @@
 -- Arcs between the places of nodes to build.
-use Rattle.std.proofs.Common.{◌≡◌, ◌↔◌, refl, sym, ap, subst, ◌∙◌, ℕ, ◌+◌, ◌<◌, Bool, true, false, List, [], ◌∷◌, ◌++◌, length, get_or, take, map, filter, All, Contains, IsTrue, ◌⊎◌, inl, inr, ⊎_elim, arith}
+use Rattle.std.proofs.Common.{◌≡◌, ◌↔◌, sym, ap, subst, ◌∙◌, ℕ, ◌+◌, ◌<◌, List, [], ◌∷◌, ◌++◌, length, get_or, take, map, filter, All, Contains, IsTrue, ◌⊎◌, ⊎_elim, arith}
 use Rattle.std.proofs.lemmas.List.{length-map, get_or-map, get_or_default, take_more}
 use Rattle.std.proofs.lemmas.List.Elements.{Contains-append_left, Contains-push, Contains-push_cases}
-use Rattle.reachability.specs.Paths.{HasArc}
-use Rattle.reachability.specs.Places.{IsAt, LeadsTo, AreHeads}
+use Rattle.reachability.specs.Places.{IsAt, AreHeads}
 use Rattle.reachability.proofs.CountLaws.{has_image, image_of}
 use Rattle.reachability.proofs.SpreadLaws.{from_filter, in_filter}
 use Rattle.graph_core.specs.OfKeyedLists.Keyed.{IsPlaceOf}
 use Rattle.graph_core.specs.OfVariantValues.Texts.{byte_cmp}
 use Rattle.graph_core.specs.declared.node.Node.{Node}
 use Rattle.graph_core.specs.declared.node.Edge.{Edge}
-use Rattle.graph_core.specs.Graphs.{Text, Content, IsGraph, HasNode, name_of}
+use Rattle.graph_core.specs.Graphs.{Text, Content, IsGraph, HasNode, name_of, is_built}
 use Rattle.graph_core.proofs.OfKeyedLists.RiseLaws.{all_from}
 use Rattle.graph_core.proofs.PathLaws.{names_once, name_at}
-use Rattle.install_plan.specs.Schedules.{is_built, IsBuilt}
+use Rattle.install_plan.specs.Schedules.{IsBuilt}
 use Rattle.install_plan.specs.Children.{names_of, IsBuiltArc, AreBuiltArcs, AreBuiltChildren}
 
 module _ (g : Content) (graph : IsGraph g) where
@@ -23,7 +22,8 @@ module _ (g : Content) (graph : IsGraph g) where
   named name place node at lt is = ap name_of is ∙ sym (get_or-map name_of g.nodes place node name lt) ∙ at.1
 
   -- the node at the place of a name tells whether the name is to be built
-  pub place_tells : (name : Text) (place : ℕ) (node : Node) → IsPlaceOf byte_cmp name_of g.nodes name place → node ≡ get_or g.nodes place node
+  pub place_tells : (name : Text) (place : ℕ) (node : Node) → IsPlaceOf byte_cmp name_of g.nodes name place
+      → node ≡ get_or g.nodes place node
       → IsTrue (is_built node) ↔ IsBuilt g name
   place_tells name place node there is =
       let at = name_at g graph name place there in (
@@ -60,7 +60,8 @@ module _ (g : Content) where
     child_built = arc.child_built;
   }
 
-  arc_before : (edges : List Edge) (e : Edge) (i j : ℕ) (arc : IsBuiltArc g (edges ++ e ∷ []) i j) → Contains edges arc.edge → IsBuiltArc g edges i j
+  arc_before : (edges : List Edge) (e : Edge) (i j : ℕ) (arc : IsBuiltArc g (edges ++ e ∷ []) i j) → Contains edges arc.edge
+      → IsBuiltArc g edges i j
   arc_before edges e i j arc has = record {
     edge = arc.edge;
     there = has;
@@ -97,8 +98,10 @@ module _ (g : Content) where
         λ arc. ⊎_elim
             (λ old. Contains-append_left arcs ((a, b) ∷ []) (i, j) ((so_far.exact i j).1 (arc_before (take done edges) e i j arc old)))
             (λ here.
-            let a_is : a ≡ i = names_once g graph arc.edge.parent a i (subst (λ (x : Edge). IsAt (names_of g) x.parent a) here at_a) arc.parent in
-            let b_is : b ≡ j = names_once g graph arc.edge.child b j (subst (λ (x : Edge). IsAt (names_of g) x.child b) here at_b) arc.child in
+            let a_is : a ≡ i = names_once g graph arc.edge.parent a i
+            (subst (λ (x : Edge). IsAt (names_of g) x.parent a) here at_a) arc.parent in
+            let b_is : b ≡ j = names_once g graph arc.edge.child b j
+            (subst (λ (x : Edge). IsAt (names_of g) x.child b) here at_b) arc.child in
             subst (Contains (arcs ++ (a, b) ∷ [])) (λ k. (a_is k, b_is k)) (Contains-push arcs (a, b)))
             (Contains-push_cases (take done edges) e arc.edge arc.there),
       );
@@ -128,7 +131,8 @@ module _ (g : Content) where
   }
 
   -- the ends of each arc are places
-  pub arcs_within : (arcs : List (ℕ × ℕ)) → AreBuiltArcs g g.edges arcs → All (λ arc. (arc.0 < length g.nodes) × (arc.1 < length g.nodes)) arcs
+  pub arcs_within : (arcs : List (ℕ × ℕ)) → AreBuiltArcs g g.edges arcs
+      → All (λ arc. (arc.0 < length g.nodes) × (arc.1 < length g.nodes)) arcs
   arcs_within arcs told = all_from (λ (arc : ℕ × ℕ). (arc.0 < length g.nodes) × (arc.1 < length g.nodes)) arcs (λ arc has.
       let from = (told.exact arc.0 arc.1).0 has in
       (omega (arith, from.parent.0, length-map g.nodes name_of), omega (arith, from.child.0, length-map g.nodes name_of)))

@@ -1,23 +1,22 @@
 -- The numbers of nodes are the earliest schedule.
-use Rattle.std.proofs.Common.{◌≡◌, ◌≢◌, refl, sym, ap, subst, ◌∙◌, ℕ, zero, suc, ◌+◌, ◌-◌, ◌<◌, ◌≤◌, Bool, true, false, cond, List, [], ◌∷◌, length, get_or, map, filter, All, Contains, ◌⊎◌, inl, inr, ⊎_elim, arith}
-use Rattle.std.proofs.lemmas.Bool.{false_from_ne_true, cases_lt}
-use Rattle.std.proofs.lemmas.List.{length-map, get_or_default, get_or-map}
+use Rattle.std.proofs.Common.{◌≡◌, sym, ap, subst, ◌∙◌, ℕ, zero, suc, ◌+◌, ◌-◌, ◌<◌, ◌≤◌, false, cond, List, [], ◌∷◌, length, get_or, map, filter, Contains, ◌⊎◌, inl, inr, ⊎_elim, arith}
+use Rattle.std.proofs.lemmas.Bool.{false_from_ne_true}
+use Rattle.std.proofs.lemmas.List.{length-map, get_or_default}
 use Rattle.std.proofs.lemmas.List.Sums.{count_by-le-length}
 use Rattle.std.specs.Cmp.Lexicographic.{bytes_decides}
 use Rattle.std.specs.Str.{bytes_eq}
-use Rattle.reachability.specs.Paths.{IsAcyclic, HasArc, level, reaches}
+use Rattle.reachability.specs.Paths.{IsAcyclic, level, reaches}
 use Rattle.reachability.specs.Places.{LeadsTo, IsAt, AreOnce}
 use Rattle.reachability.proofs.CountLaws.{has_image, image_of}
 use Rattle.reachability.proofs.SpreadLaws.{from_filter}
 use Rattle.reachability.proofs.ReachLaws.{level_rises}
 use Rattle.graph_core.specs.declared.node.Node.{Node}
-use Rattle.graph_core.specs.declared.node.Edge.{Edge}
-use Rattle.graph_core.specs.Graphs.{Text, Content, IsGraph, name_of, ends_of}
+use Rattle.graph_core.specs.Graphs.{Text, Content, IsGraph, name_of, ends_of, is_built}
 use Rattle.graph_core.specs.Paths.{arcs_of, JoinedIn}
 use Rattle.graph_core.proofs.PathLaws.{names_once}
-use Rattle.install_plan.specs.Schedules.{is_built, IsBuilt, IsSchedule, IsEarliest}
-use Rattle.install_plan.specs.Numbers.{number_at, HaveHeights, IsRightAt, AreNumbers}
-use Rattle.install_plan.specs.Children.{names_of, built_of, IsBuiltArc, AreBuiltChildren, number_of, wave_in}
+use Rattle.install_plan.specs.Schedules.{IsBuilt, IsSchedule, IsEarliest}
+use Rattle.install_plan.specs.Numbers.{number_at, HaveHeights, AreNumbers}
+use Rattle.install_plan.specs.Children.{names_of, AreBuiltChildren, number_of, wave_in}
 
 -- a name has the number at its place
 pub number_there : (nodes : List Node) (numbers : List ℕ) → AreOnce (map name_of nodes) → length numbers ≡ length nodes
@@ -33,7 +32,8 @@ number_there (node ∷ nodes) (number ∷ numbers) once each name (suc place) at
     (λ same. absurd (omega (arith, once name zero (suc place) (omega arith, (bytes_decides node.name name).0 same) at))) in
     ap (λ b. cond b number (number_of nodes numbers name)) other
     ∙ number_there nodes numbers (λ key i j at_i at_j.
-    omega (arith, once key (suc i) (suc j) (omega (arith, at_i.0), at_i.1) (omega (arith, at_j.0), at_j.1))) (omega (arith, each)) name place
+    omega (arith, once key (suc i) (suc j) (omega (arith, at_i.0), at_i.1) (omega (arith, at_j.0), at_j.1)))
+    (omega (arith, each)) name place
     later
 
 module _ (g : Content) where
@@ -71,8 +71,10 @@ module _ (g : Content) where
       falls = λ i j leads.
           let arc = (are.exact i j).0 leads in
           let joined : JoinedIn g arc.edge.parent arc.edge.child = has_image ends_of g.edges arc.edge arc.there in
-          let at_i : get_or (names_of g) i [] ≡ arc.edge.parent = get_or_default (names_of g) i [] arc.edge.parent arc.parent.0 ∙ arc.parent.1 in
-          let at_j : get_or (names_of g) j [] ≡ arc.edge.child = get_or_default (names_of g) j [] arc.edge.child arc.child.0 ∙ arc.child.1 in
+          let at_i : get_or (names_of g) i [] ≡ arc.edge.parent = get_or_default (names_of g) i [] arc.edge.parent arc.parent.0
+          ∙ arc.parent.1 in
+          let at_j : get_or (names_of g) j [] ≡ arc.edge.child = get_or_default (names_of g) j [] arc.edge.child arc.child.0
+          ∙ arc.child.1 in
           omega (arith, height_falls acyclic arc.edge.parent arc.edge.child joined, ap height_of at_i, ap height_of at_j);
     }
 

@@ -1,35 +1,40 @@
 -- The names of each wave.
 use Rattle.std.proofs.Common.{◌≡◌, ◌≢◌, ◌↔◌, refl, sym, ap, subst, ◌∙◌, ℕ, zero, suc, ◌+◌, ◌-◌, ◌<◌, ◌≤◌, ◌==◌, Bool, true, false, cond, List, [], ◌∷◌, ◌++◌, length, get_or, set, take, map, filter, replicate, All, Contains, ◌⊎◌, inl, inr, ⊎_elim, eq-eqb, arith}
 use Rattle.std.proofs.lemmas.Bool.{cases_eq, cases_lt, cases_Bool, eqb-true, ne_eqb, false≢true}
-use Rattle.std.proofs.lemmas.List.{length-map, length-set, length-replicate, get_or-map, get_or-set_same, get_or-set_other, get_or_past, get_or_default, get_or-replicate, take_more, map-append, append-nil}
+use Rattle.std.proofs.lemmas.List.{length-map, length-set, length-replicate, get_or-map, get_or-set_same, get_or-set_other, get_or_past, get_or-replicate, take_more, map-append, append-nil}
 use Rattle.std.proofs.lemmas.List.Elements.{All-from_get_or, Contains-append_left, Contains-push, Contains-push_cases, filter-append}
 use Rattle.std.proofs.lemmas.List.Kept.{IsStrictlySortedBy-filter}
 use Rattle.std.specs.List.Sorted.{IsStrictlySortedBy}
 use Rattle.std.specs.declared.cmp.Ordering.TheVariants.{Less}
-use Rattle.reachability.proofs.CountLaws.{has_first, has_later, first_or_later, has_image, image_of}
+use Rattle.reachability.proofs.CountLaws.{has_image, image_of}
 use Rattle.reachability.proofs.SpreadLaws.{from_filter, in_filter}
 use Rattle.graph_core.specs.OfVariantValues.Texts.{byte_cmp}
 use Rattle.graph_core.specs.declared.node.Node.{Node}
-use Rattle.graph_core.specs.Graphs.{Text, Content, IsGraph, name_of}
+use Rattle.graph_core.specs.Graphs.{Text, Content, IsGraph, name_of, is_built}
 use Rattle.graph_core.specs.Paths.{JoinedIn}
 use Rattle.graph_core.proofs.PathLaws.{names_once}
 use Rattle.graph_core.proofs.OfKeyedLists.RiseLaws.{rises_above, rises_rest, rises_more, rises_none}
-use Rattle.install_plan.specs.Schedules.{is_built, IsBuilt, IsEarliest, AreWaves, wave_at}
-use Rattle.install_plan.specs.Children.{names_of, built_of, wave_in, with_number, IsGreatest, AreByNumber}
+use Rattle.install_plan.specs.Schedules.{IsBuilt, AreWaves, wave_at}
+use Rattle.install_plan.specs.Children.{built_of, wave_in, with_number, IsGreatest, AreByNumber}
 use Rattle.install_plan.specs.Steps.{GoDown}
 use Rattle.install_plan.proofs.EarliestLaws.{number_there}
 
 -- ---- names of nodes to build
 
 -- one node more, which is to be built
-pub built_more : (nodes : List Node) (place : ℕ) (node : Node) → place < length nodes → node ≡ get_or nodes place node → is_built node ≡ true
+pub built_more : (nodes : List Node) (place : ℕ) (node : Node) → place < length nodes → node ≡ get_or nodes place node
+    → is_built node ≡ true
     → built_of (take (place + 1) nodes) ≡ built_of (take place nodes) ++ node.name ∷ []
-built_more nodes place node lt is passes = rw (take_more nodes place node lt, ← is, filter-append is_built (take place nodes) (node ∷ []), passes, map-append) refl
+built_more nodes place node lt is passes =
+    rw (take_more nodes place node lt, ← is, filter-append is_built (take place nodes) (node ∷ []), passes, map-append) refl
 
 -- one node more, which is not
-pub built_same : (nodes : List Node) (place : ℕ) (node : Node) → place < length nodes → node ≡ get_or nodes place node → is_built node ≡ false
+pub built_same : (nodes : List Node) (place : ℕ) (node : Node) → place < length nodes → node ≡ get_or nodes place node
+    → is_built node ≡ false
     → built_of (take (place + 1) nodes) ≡ built_of (take place nodes)
-built_same nodes place node lt is fails = rw (take_more nodes place node lt, ← is, filter-append is_built (take place nodes) (node ∷ []), fails, map-append) (append-nil (built_of (take place nodes)))
+built_same nodes place node lt is fails =
+    rw (take_more nodes place node lt, ← is, filter-append is_built (take place nodes) (node ∷ []), fails, map-append)
+    (append-nil (built_of (take place nodes)))
 
 -- the names of the nodes to build are in byte order, as those of all nodes are
 pub built_sorted : (nodes : List Node) → IsStrictlySortedBy byte_cmp (map name_of nodes) → IsStrictlySortedBy byte_cmp (built_of nodes)
@@ -64,7 +69,8 @@ module _ (wave_of : Text → ℕ) where
   pub with_same : (place : ℕ) (names : List Text) (name : Text) → wave_of name ≢ place + 1
       → with_number wave_of place (names ++ name ∷ []) ≡ with_number wave_of place names
   with_same place names name other =
-      rw (filter-append (λ x. wave_of x == place + 1) names (name ∷ []), ne_eqb (wave_of name) (place + 1) other) (append-nil (with_number wave_of place names))
+      rw (filter-append (λ x. wave_of x == place + 1) names (name ∷ []), ne_eqb (wave_of name) (place + 1) other)
+      (append-nil (with_number wave_of place names))
 
   -- the names so far, each in its wave
   pub record AreSorted (waves : List (List Text)) (count : ℕ) (names : List Text) : Type 0 where
@@ -196,7 +202,8 @@ module _ (g : Content) (graph : IsGraph g) (wave_of : Text → ℕ) (waves : Lis
   in_wave place name = (
     λ has. ⊎_elim
         (λ lt.
-        let parts = from_filter (λ x. wave_of x == place + 1) (built_of g.nodes) name (subst (λ l. Contains l name) (are.names place lt) has) in
+        let parts = from_filter (λ x. wave_of x == place + 1) (built_of g.nodes) name
+        (subst (λ l. Contains l name) (are.names place lt) has) in
         (parts.0, eqb-true (wave_of name) (place + 1) parts.1))
         (λ past. absurd (omega (arith, (subst (λ l. Contains l name) (get_or_past waves place [] past) has).1)))
         (cases_lt place (length waves)),

@@ -11,9 +11,9 @@ pub record IsLeast (Passes : Text → Type 0) (name : Text) : Type 0 where
   pub least : (other : Text) → Passes other → IsTrue (is_le (byte_cmp name other))
 
 -- the name may follow the one before it, where there is one: it is a child of that
-abbrev pub Follows : Content → Option Text → Text → Type 0
-Follows g None name = Unit {0}
-Follows g (Some parent) name = JoinedIn g parent name
+abbrev pub MayComeBelow : Content → Option Text → Text → Type 0
+MayComeBelow g None name = Unit {0}
+MayComeBelow g (Some parent) name = JoinedIn g parent name
 
 -- a name of each of these waves, in turn: the least there that may follow the one before it
 abbrev pub GoesDown : Content → Option Text → List (List Text) → List Text → Type 0
@@ -21,7 +21,7 @@ GoesDown g above [] [] = Unit {0}
 GoesDown g above [] (name ∷ names) = ⊥
 GoesDown g above (wave ∷ waves) [] = ⊥
 GoesDown g above (wave ∷ waves) (name ∷ names) =
-    IsLeast (λ x. Contains wave x × Follows g above x) name × GoesDown g (Some name) waves names
+    IsLeast (λ x. Contains wave x × MayComeBelow g above x) name × GoesDown g (Some name) waves names
 
 -- the chain starts with the least name of the last wave, and goes on with the least child in the wave before
 abbrev pub IsChain : Content → List (List Text) → List Text → Type 0

@@ -3,10 +3,10 @@ use Rattle.std.specs.Prelude.{◌≡◌, ◌↔◌, ◌⊎◌, ℕ, ◌+◌, ◌
 use Rattle.std.specs.Str.{bytes_eq}
 use Rattle.graph_core.specs.OfReachability.Paths.{HasArc}
 use Rattle.graph_core.specs.OfReachability.Places.{IsAt, LeadsTo}
-use Rattle.graph_core.specs.Graphs.{Text, Content, name_of}
+use Rattle.graph_core.specs.Graphs.{Text, Content, name_of, is_built}
 use Rattle.graph_core.specs.declared.node.Node.{Node}
 use Rattle.graph_core.specs.declared.node.Edge.{Edge}
-use Rattle.install_plan.specs.Schedules.{is_built, IsBuilt, wave_at}
+use Rattle.install_plan.specs.Schedules.{IsBuilt, wave_at}
 
 abbrev pub names_of : Content → List Text
 names_of g = map name_of g.nodes

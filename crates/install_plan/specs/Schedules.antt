@@ -1,15 +1,9 @@
 -- Schedules: a wave for each node to build, children before their parents.
-use Rattle.std.specs.Prelude.{◌≡◌, ◌↔◌, ℕ, ◌+◌, ◌<◌, ◌≤◌, Bool, true, false, List, [], length, map, filter, All, Contains, slice_index_or}
+use Rattle.std.specs.Prelude.{◌≡◌, ◌↔◌, ℕ, ◌+◌, ◌<◌, ◌≤◌, List, [], map, filter, All, Contains, slice_index_or}
 use Rattle.std.specs.List.Sorted.{IsStrictlySortedBy}
 use Rattle.graph_core.specs.OfVariantValues.Texts.{byte_cmp}
-use Rattle.graph_core.specs.Graphs.{Text, Content, name_of}
+use Rattle.graph_core.specs.Graphs.{Text, Content, is_built, name_of}
 use Rattle.graph_core.specs.Paths.{JoinedIn}
-use Rattle.graph_core.specs.declared.node.Node.{Node}
-use Rattle.graph_core.specs.declared.node.Origin.TheVariants.{Built, External, Installed}
-
--- the node is to be built
-abbrev pub is_built : Node → Bool
-is_built node = elim node.origin [ Built ↦ true | External place ↦ false | Installed hash ↦ false ]
 
 -- the name is that of a node to build
 abbrev pub IsBuilt : Content → Text → Type 0

@@ -3,8 +3,7 @@ ghost use Rattle.std.specs.Prelude.{◌≡◌, ◌<◌, ◌≤◌, ◌∷◌, �
 ghost use Rattle.install_plan.specs.Schedules.{wave_at};
 ghost use Rattle.install_plan.specs.Children.{built_of, wave_in, IsGreatest, AreByNumber};
 
-use crate::children::is_built;
-use graph_core::Graph;
+use graph_core::{Graph, is_built};
 use plain_data::{Duplicate, List, Word};
 use std::alloc::{AllocError, Global};
 

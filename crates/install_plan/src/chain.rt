@@ -1,7 +1,7 @@
 // A chain of nodes to build, one of each wave.
 ghost use Rattle.std.specs.Prelude.{◌↔◌, IfOk, IsTrue, Contains};
 ghost use Rattle.std.specs.Option.{option_copied};
-ghost use Rattle.install_plan.specs.Chains.{IsChain, IsLeast, Follows};
+ghost use Rattle.install_plan.specs.Chains.{IsChain, IsLeast, MayComeBelow};
 ghost use Rattle.install_plan.specs.Steps.{GoDown, HasNext};
 
 use graph_core::Graph;
@@ -32,19 +32,19 @@ pub(crate) fn chain_of(
 /// The least of these names that may follow the one before it.
 fn next_name<'a>(graph: &Graph, above: Option<&Word>, names: &'a [Word]) -> &'a Word
     requires { HasNext graph.now (option_copied above) names.now }
-    ensures { IsLeast (λ x. Contains names.now x × Follows graph.now (option_copied above.entry) x)
-        result.now }
+    ensures { IsLeast (λ x. Contains names.now x
+        × MayComeBelow graph.now (option_copied above.entry) x) result.now }
 {
     for name in names {
-        if follows(graph, above, name.as_str()) {
+        if may_come_below(graph, above, name.as_str()) {
             return name;
         }
     }
     unreachable!()
 }
 
-fn follows(graph: &Graph, above: Option<&Word>, name: &str) -> bool
-    ensures { IsTrue result ↔ Follows graph.now (option_copied above.entry) name.now }
+fn may_come_below(graph: &Graph, above: Option<&Word>, name: &str) -> bool
+    ensures { IsTrue result ↔ MayComeBelow graph.now (option_copied above.entry) name.now }
 {
     match above {
         Some(parent) => graph.edge(parent.as_str(), name).is_some(),

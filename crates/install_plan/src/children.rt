@@ -1,11 +1,11 @@
 // The children to build of each node to build.
 ghost use Rattle.std.specs.Prelude.{◌≡◌, ◌↔◌, IfOk, OnOk, IsTrue};
 ghost use Rattle.graph_core.specs.OfReachability.Places.{AreWithin};
-ghost use Rattle.graph_core.specs.Graphs.{IsGraph};
-ghost use Rattle.install_plan.specs.Schedules.{is_built, IsBuilt};
+ghost use Rattle.graph_core.specs.Graphs.{IsGraph, is_built};
+ghost use Rattle.install_plan.specs.Schedules.{IsBuilt};
 ghost use Rattle.install_plan.specs.Children.{AreBuiltArcs, AreBuiltChildren};
 
-use graph_core::{Edge, Graph, Node, Origin, heads_of, known_place};
+use graph_core::{Edge, Graph, heads_of, is_built, known_place};
 use plain_data::List;
 use std::alloc::{AllocError, Global};
 
@@ -36,7 +36,8 @@ fn built_arcs(alloc: Global, graph: &Graph) -> Result<Vec<(usize, usize)>, Alloc
 
 /// Whether both ends of an edge are to be built.
 fn joins_built(graph: &Graph, edge: &Edge) -> bool
-    ensures { IsTrue result ↔ (IsBuilt graph.now edge.now.parent × IsBuilt graph.now edge.now.child) }
+    ensures { IsTrue result ↔ (IsBuilt graph.now edge.now.parent
+        × IsBuilt graph.now edge.now.child) }
 {
     is_to_build(graph, edge.parent.as_str()) && is_to_build(graph, edge.child.as_str())
 }
@@ -48,11 +49,4 @@ fn is_to_build(graph: &Graph, name: &str) -> bool
         Ok(place) => is_built(&graph.nodes()[place]),
         Err(_) => false,
     }
-}
-
-/// Whether a node is to be built.
-pub(crate) fn is_built(node: &Node) -> bool
-    ensures { result ≡ is_built node.now }
-{
-    matches!(node.origin, Origin::Built)
 }

@@ -1,5 +1,5 @@
 -- What can be told in one way only.
-use Rattle.std.proofs.Common.{◌≡◌, sym, ap, ◌∙◌, ℕ, List, Option, Some, None, Result, Ok, Err, unwrap_or}
+use Rattle.std.proofs.Common.{◌≡◌, sym, ap, ◌∙◌, ℕ, List, Option, Some, None, Result, Ok, unwrap_or}
 use Rattle.serde_json.specs.Data.{Data}
 use Rattle.json_readers.specs.Json.{IsJson}
 

@@ -32,7 +32,10 @@ pub(crate) fn record_answer(alloc: Global, text: &str) -> Result<String, AllocEr
 
 fn record_in(alloc: Global, text: &str) -> Result<Record, JsonFault> {
     match read_json(alloc, text.as_bytes())? {
-        Some(value) => RecordForm { may_name: true }.read(alloc, &value),
+        Some(value) => RecordForm {
+            may_name_virtuals: true,
+        }
+        .read(alloc, &value),
         None => Err(JsonFault::OutOfMemory),
     }
 }
@@ -71,7 +74,10 @@ fn database_in(alloc: Global, text: &str) -> Result<Database, DbFault> {
 
 fn records_in(alloc: Global, text: &str) -> Result<List<Record>, JsonFault> {
     match read_json(alloc, text.as_bytes())? {
-        Some(value) => ListOf(RecordForm { may_name: true }).read(alloc, &value),
+        Some(value) => ListOf(RecordForm {
+            may_name_virtuals: true,
+        })
+        .read(alloc, &value),
         None => Err(JsonFault::OutOfMemory),
     }
 }

@@ -74,7 +74,8 @@ module _ {X K : Type 0} {R : K → K → Ordering} (o : IsTotalOrder R) (exact :
     in_order-filter_map [] rising = rises_none R
     in_order-filter_map (k ∷ ks) rising = in_order_by_key (given k) refl (in_order-filter_map ks (rises_rest R k ks rising))
       where
-        in_order_by_key : (r : Option X) → given k ≡ r → IsInOrder R key (filter_map given ks) → IsInOrder R key (cons_option r (filter_map given ks))
+        in_order_by_key : (r : Option X) → given k ≡ r → IsInOrder R key (filter_map given ks)
+            → IsInOrder R key (cons_option r (filter_map given ks))
         in_order_by_key None is rest = rest
         in_order_by_key (Some x) is rest = rises_more R (key x) (map key (filter_map given ks)) (λ j there.
             let from = image_of key (filter_map given ks) j there in

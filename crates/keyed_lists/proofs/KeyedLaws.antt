@@ -56,7 +56,8 @@ module _ {X K : Type 0} {R : K → K → Ordering} (o : IsTotalOrder R) (exact :
   pub insert-at_gap : (xs : List X) (x : X) (i : ℕ) → IsGapFor R key xs (key x) i → insert xs i x ≡ with_one R key xs x
   insert-at_gap xs x i gap = inserted_at xs i gap.within gap.parted
     where
-      inserted_at : (xs : List X) (i : ℕ) → i ≤ length xs → IsPartitionPoint (λ u. R (key u) (key x) ≡ Less) (λ u. R (key u) (key x) ≡ Greater) xs i
+      inserted_at : (xs : List X) (i : ℕ) → i ≤ length xs
+          → IsPartitionPoint (λ u. R (key u) (key x) ≡ Less) (λ u. R (key u) (key x) ≡ Greater) xs i
           → insert xs i x ≡ with_one R key xs x
       inserted_at [] zero le parted = refl
       inserted_at [] (suc i) le parted = absurd (omega (arith, le))

@@ -37,7 +37,8 @@ filter_mapped f p [] = refl
 filter_mapped f p (x ∷ xs) = filtered_by_test (p (f x)) (filter_mapped f p xs)
   where
     filtered_by_test : (b : Bool) → filter p (map f xs) ≡ map f (filter (λ x. p (f x)) xs)
-        → cond b (f x ∷ filter p (map f xs)) (filter p (map f xs)) ≡ map f (cond b (x ∷ filter (λ x. p (f x)) xs) (filter (λ x. p (f x)) xs))
+        → cond b (f x ∷ filter p (map f xs)) (filter p (map f xs))
+        ≡ map f (cond b (x ∷ filter (λ x. p (f x)) xs) (filter (λ x. p (f x)) xs))
     filtered_by_test true e = ap (λ l. f x ∷ l) e
     filtered_by_test false e = e
 

@@ -15,8 +15,8 @@ use Rattle.clause_store.specs.declared.Lit.{Lit}
 use Rattle.level_encoding.specs.declared.input.Arc.{Arc}
 use Rattle.clause_store.specs.Lits.{lit_true, var_of}
 use Rattle.clause_circuits.specs.Gates.{lit_of}
-use Rattle.clause_formulas.specs.Statements.{Statement, atom, or, eval, any_statement, opposite}
-use Rattle.level_encoding.specs.Composed.{implication_clause, digit_row}
+use Rattle.clause_formulas.specs.Statements.{Statement, atom, or, eval, any_statement, opposite, implication_of}
+use Rattle.level_encoding.specs.Composed.{digit_row}
 use Rattle.level_encoding.specs.Input.{LevelData, numbers, same, arc_ends, possible, chosen, node, literal_at, is_root_number, is_asked_target, IsRight}
 use Rattle.level_encoding.specs.Encoding.{numbers_below, level_width, level_start, level, turns, turn_start, arc_rules, arcs_rules, node_rules, arcs_leaving, begins_path, way_rules, path_rules, way, path, path_start, leads, ways, constraints}
 use Rattle.level_encoding.specs.Laws.{HasModel}
@@ -269,9 +269,9 @@ module _ (s : LevelData) (v : ℕ → Bool) (right : IsRight s) (acyclic : IsAcy
   unfolding way_rules
   way-met p q target =
       and_from (eval extended (or (opposite (path s p q)) (starts s q p)))
-      (list_all (eval extended) (map (λ a. implication_clause (begins_path s q a) (path s p q)) (arcs_leaving s p)))
+      (list_all (eval extended) (map (λ a. implication_of (begins_path s q a) (path s p q)) (arcs_leaving s p)))
       (first-or extended (path s p q) (starts s q p) (λ t. begun (path-of p q t)))
-      (all-map-from (eval extended) (λ a. implication_clause (begins_path s q a) (path s p q)) (arcs_leaving s p)
+      (all-map-from (eval extended) (λ a. implication_of (begins_path s q a) (path s p q)) (arcs_leaving s p)
       (λ a m. implies-from extended (begins_path s q a) (path s p q) (λ t.
       let d = filter-In (λ a. eqb a.parent p) a s.arcs m in
       leading (any_of-is extended (begins_path s q) (λ a. eqb a.parent p) s.arcs

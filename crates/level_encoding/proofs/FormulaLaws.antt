@@ -4,56 +4,32 @@ use Rattle.std.specs.List.{list_all}
 use Rattle.std.proofs.lemmas.Bool.{cases_Bool, or_cases, or_left, or_right, and_parts, and_from, not-true, false≢true, leb-true, leb-false, ltb-true, lt-ltb}
 use Rattle.std.proofs.Math.Nat.{pow-suc}
 use Rattle.std.proofs.lemmas.List.{length-map}
-use Rattle.clause_store.specs.Lits.{var_of}
-use Rattle.clause_formulas.specs.Statements.{Statement, atom, never, or, no, eval, opposite, any_statement}
-use Rattle.level_encoding.specs.Composed.{conjunction, implication_clause, rising, digit_row}
-
-not-twice : (b : Bool) → b ≡ not (not b)
-not-twice true = refl
-not-twice false = refl
-
-opposite-is : (v : ℕ → Bool) (f : Statement) → eval v (opposite f) ≡ not (eval v f)
-opposite-is v (atom l) = turned l.positive (v (var_of l))
-  where
-    turned : (a b : Bool) → cond (not a) b (not b) ≡ not (cond a b (not b))
-    turned true b = refl
-    turned false b = not-twice b
-opposite-is v never = refl
-opposite-is v (or f g) = refl
-opposite-is v (no f) = not-twice (eval v f)
-
-both-is : (v : ℕ → Bool) (f g : Statement) → eval v (conjunction f g) ≡ (eval v f && eval v g)
-unfolding conjunction
-both-is v f g = rw (opposite-is v f, opposite-is v g) (turned (eval v f) (eval v g))
-  where
-    turned : (a b : Bool) → not (not a || (not b || false)) ≡ (a && b)
-    turned true true = refl
-    turned true false = refl
-    turned false b = refl
+use Rattle.clause_formulas.specs.Statements.{Statement, or, eval, opposite, any_statement, both_statements, implication_of}
+use Rattle.clause_formulas.proofs.Words.{eval-opposite, eval-both}
+use Rattle.level_encoding.specs.Composed.{rising, digit_row}
 
 -- where both are said each is
-pub both-parts : (v : ℕ → Bool) (f g : Statement) → eval v (conjunction f g) ≡ true → (eval v f ≡ true) × (eval v g ≡ true)
-both-parts v f g h = and_parts (eval v f) (eval v g) (sym (both-is v f g) ∙ h)
+pub both-parts : (v : ℕ → Bool) (f g : Statement) → eval v (both_statements f g) ≡ true → (eval v f ≡ true) × (eval v g ≡ true)
+both-parts v f g h = and_parts (eval v f) (eval v g) (sym (eval-both v f g) ∙ h)
 
 -- and the other way round
-pub both-from : (v : ℕ → Bool) (f g : Statement) → eval v f ≡ true → eval v g ≡ true → eval v (conjunction f g) ≡ true
-both-from v f g a b = both-is v f g ∙ and_from (eval v f) (eval v g) a b
+pub both-from : (v : ℕ → Bool) (f g : Statement) → eval v f ≡ true → eval v g ≡ true → eval v (both_statements f g) ≡ true
+both-from v f g a b = eval-both v f g ∙ and_from (eval v f) (eval v g) a b
 
 -- a formula and its opposite are not both true
 pub opposite-at : (v : ℕ → Bool) (f : Statement) → eval v (opposite f) ≡ true → eval v f ≡ true → ⊥
-opposite-at v f h t = false≢true (sym (not-true (eval v f) (sym (opposite-is v f) ∙ h)) ∙ t)
+opposite-at v f h t = false≢true (sym (not-true (eval v f) (sym (eval-opposite v f) ∙ h)) ∙ t)
 
 -- the opposite is true where the formula is not
 pub opposite-from : (v : ℕ → Bool) (f : Statement) → (eval v f ≡ true → ⊥) → eval v (opposite f) ≡ true
-opposite-from v f h = opposite-is v f ∙ by-bool (eval v f) refl
+opposite-from v f h = eval-opposite v f ∙ by-bool (eval v f) refl
   where
     by-bool : (b : Bool) → eval v f ≡ b → not b ≡ true
     by-bool true e = absurd (h e)
     by-bool false e = refl
 
 -- what follows is true
-pub implies-at : (v : ℕ → Bool) (f g : Statement) → eval v (implication_clause f g) ≡ true → eval v f ≡ true → eval v g ≡ true
-unfolding implication_clause
+pub implies-at : (v : ℕ → Bool) (f g : Statement) → eval v (implication_of f g) ≡ true → eval v f ≡ true → eval v g ≡ true
 implies-at v f g h t =
     elim (or_cases (eval v (opposite f)) (eval v g || false) h) [
       | inl a ↦ absurd (opposite-at v f a t)
@@ -61,8 +37,7 @@ implies-at v f g h t =
     ]
 
 -- and the other way round
-pub implies-from : (v : ℕ → Bool) (f g : Statement) → (eval v f ≡ true → eval v g ≡ true) → eval v (implication_clause f g) ≡ true
-unfolding implication_clause
+pub implies-from : (v : ℕ → Bool) (f g : Statement) → (eval v f ≡ true → eval v g ≡ true) → eval v (implication_of f g) ≡ true
 implies-from v f g h =
     elim (cases_Bool (eval v f)) [
       | inl t ↦ or_right (eval v (opposite f)) (eval v g || false) (or_left (eval v g) false (h t))

@@ -10,6 +10,7 @@ pub mod RowLaws
 pub mod Range
 pub mod AssertedLaws
 pub mod RuleLaws
+pub mod Towards
 pub mod Sound
 pub mod Complete
 pub mod OpenLaws

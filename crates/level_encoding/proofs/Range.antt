@@ -8,10 +8,11 @@ use Rattle.clause_store.specs.declared.Lit.{Lit}
 use Rattle.level_encoding.specs.declared.input.Arc.{Arc}
 use Rattle.clause_store.specs.Lits.{var_of}
 use Rattle.clause_circuits.specs.Gates.{lit_of}
-use Rattle.clause_formulas.specs.Statements.{Statement, atom, never, or, no, opposite, any_statement, SaidBelow}
-use Rattle.level_encoding.specs.Composed.{conjunction, implication_clause, rising, digit_row}
+use Rattle.clause_formulas.specs.Statements.{Statement, atom, never, or, no, opposite, any_statement, SaidBelow, both_statements, implication_of}
+use Rattle.level_encoding.specs.Composed.{rising, digit_row}
 use Rattle.level_encoding.specs.Input.{LevelData, numbers, possible, node, literal_at, is_root_number, IsRight}
 use Rattle.level_encoding.specs.Encoding.{numbers_below, level_width, level_start, level, leads, path_start, way, path, turn_start, is_inside, turns, arc_rules, arcs_rules, node_rules, arcs_leaving, begins_path, way_rules, path_rules, constraints, end}
+use Rattle.level_encoding.specs.Towards.{may_begin, arcs_towards, way_rules_over}
 use Rattle.level_encoding.specs.Laws.{AllSaidBelow}
 use Rattle.level_encoding.proofs.Lists.{In, all-in, range-In, filter-In}
 use Rattle.level_encoding.proofs.Room.{level-fits, path-fits, turn_start-le}
@@ -23,12 +24,10 @@ opposite-below n never h = h
 opposite-below n (or f g) h = h
 opposite-below n (no f) h = h
 
-both-below : (n : ℕ) (f g : Statement) → SaidBelow n f → SaidBelow n g → SaidBelow n (conjunction f g)
-unfolding conjunction
+both-below : (n : ℕ) (f g : Statement) → SaidBelow n f → SaidBelow n g → SaidBelow n (both_statements f g)
 both-below n f g a b = (opposite-below n f a, (opposite-below n g b, tt))
 
-implies-below : (n : ℕ) (f g : Statement) → SaidBelow n f → SaidBelow n g → SaidBelow n (implication_clause f g)
-unfolding implication_clause
+implies-below : (n : ℕ) (f g : Statement) → SaidBelow n f → SaidBelow n g → SaidBelow n (implication_of f g)
 implies-below n f g a b = (opposite-below n f a, (b, tt))
 
 rising-below : (n : ℕ) (r : Statement) (fs gs ts : List Statement) → SaidBelow n r → AllSaidBelow n fs → AllSaidBelow n gs
@@ -145,19 +144,26 @@ module _ (s : LevelData) (right : IsRight s) where
     )
   ]
 
-  pub way_rules-below : (q p : ℕ) → AllSaidBelow (end s) (way_rules s q p)
-  unfolding way_rules
-  way_rules-below q p =
-      let own : (a : Arc) → In a (arcs_leaving s p) → SaidBelow (end s) (begins_path s q a) =
-      λ a i. step-below q a (filter-In (λ a. eqb a.parent p) a s.arcs i).0 in (
+  way_rules_over-below : (q p : ℕ) (arcs : List Arc) → ((a : Arc) → In a arcs → In a s.arcs)
+      → AllSaidBelow (end s) (way_rules_over s q p arcs)
+  unfolding way_rules_over
+  way_rules_over-below q p arcs part =
+      let own : (a : Arc) → In a arcs → SaidBelow (end s) (begins_path s q a) = λ a i. step-below q a (part a i) in (
         (
           opposite-below (end s) (path s p q) (path-below p q),
-          any-below (end s) (map (begins_path s q) (arcs_leaving s p))
-              (all-map (end s) (begins_path s q) (arcs_leaving s p) own),
+          any-below (end s) (map (begins_path s q) arcs) (all-map (end s) (begins_path s q) arcs own),
         ),
-        all-map (end s) (λ a. implication_clause (begins_path s q a) (path s p q)) (arcs_leaving s p)
+        all-map (end s) (λ a. implication_of (begins_path s q a) (path s p q)) arcs
             (λ a i. implies-below (end s) (begins_path s q a) (path s p q) (own a i) (path-below p q)),
       )
+
+  pub way_rules-below : (q p : ℕ) → AllSaidBelow (end s) (way_rules s q p)
+  unfolding way_rules way_rules_over
+  way_rules-below q p = way_rules_over-below q p (arcs_leaving s p) (λ a i. (filter-In (λ a. eqb a.parent p) a s.arcs i).0)
+
+  pub towards-below : (q p : ℕ) → AllSaidBelow (end s) (way_rules_over s q p (arcs_towards s q p))
+  towards-below q p = way_rules_over-below q p (arcs_towards s q p)
+      (λ a i. (filter-In (λ a. eqb a.parent p) a s.arcs (filter-In (may_begin s q) a (arcs_leaving s p) i).0).0)
 
   path_rules-below : (q : ℕ) → AllSaidBelow (end s) (path_rules s q)
   unfolding path_rules

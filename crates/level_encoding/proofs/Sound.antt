@@ -9,8 +9,8 @@ use Rattle.reachability.proofs.ReachLaws.{begins_at_root, told_by_path}
 use Rattle.level_encoding.proofs.Reached.{exact_same, joined-from}
 use Rattle.level_encoding.specs.declared.input.Arc.{Arc}
 use Rattle.clause_store.specs.Lits.{lit_true}
-use Rattle.clause_formulas.specs.Statements.{atom, or, eval, any_statement, opposite}
-use Rattle.level_encoding.specs.Composed.{implication_clause, digit_row, Meets}
+use Rattle.clause_formulas.specs.Statements.{atom, or, eval, any_statement, opposite, implication_of}
+use Rattle.level_encoding.specs.Composed.{digit_row, Meets}
 use Rattle.level_encoding.specs.Input.{LevelData, numbers, same, possible, chosen, node, is_root_number, IsRight}
 use Rattle.level_encoding.specs.Encoding.{numbers_below, level, turns, turn_start, arc_rules, arcs_rules, node_rules, arcs_leaving, begins_path, way_rules, path_rules, path, leads, constraints}
 use Rattle.level_encoding.specs.Laws.{IsSound, IsExact, StartsChosen}
@@ -105,18 +105,18 @@ module _ (s : LevelData) (v : ℕ → Bool) (right : IsRight s) (starts_chosen :
   way-starts p q t =
       let m = ways-met p q (path-leads s v p q t) in
       first-or-at v (path s p q) (starts s q p) (and_parts (eval v (or (opposite (path s p q)) (starts s q p)))
-      (list_all (eval v) (map (λ a. implication_clause (begins_path s q a) (path s p q)) (arcs_leaving s p))) m).0 t
+      (list_all (eval v) (map (λ a. implication_of (begins_path s q a) (path s p q)) (arcs_leaving s p))) m).0 t
 
   starts-way : (p q : ℕ) → leads s q p ≡ true → eval v (starts s q p) ≡ true → eval v (path s p q) ≡ true
   unfolding way_rules
   starts-way p q h t =
       let m = and_parts (eval v (or (opposite (path s p q)) (starts s q p)))
-      (list_all (eval v) (map (λ a. implication_clause (begins_path s q a) (path s p q)) (arcs_leaving s p))) (ways-met p q h) in
+      (list_all (eval v) (map (λ a. implication_of (begins_path s q a) (path s p q)) (arcs_leaving s p))) (ways-met p q h) in
       let f = any-to (λ a. eqb a.parent p && eval v (begins_path s q a)) s.arcs
       (sym (any_of-is v (begins_path s q) (λ a. eqb a.parent p) s.arcs) ∙ t) in
       let y = and_parts (eqb f.0.parent p) (eval v (begins_path s q f.0)) f.2 in
       implies-at v (begins_path s q f.0) (path s p q)
-      (all-map-at (eval v) (λ a. implication_clause (begins_path s q a) (path s p q)) f.0 (arcs_leaving s p) m.1
+      (all-map-at (eval v) (λ a. implication_of (begins_path s q a) (path s p q)) f.0 (arcs_leaving s p) m.1
       (In-filter (λ a. eqb a.parent p) f.0 s.arcs f.1 y.0)) y.1
 
   -- its path literals are true exactly where chosen arcs lead

@@ -2,13 +2,7 @@
 use Rattle.std.specs.Prelude.{◌≡◌, ℕ, Bool, true, List, [], ◌∷◌, ◌++◌, map}
 use Rattle.std.specs.List.{list_all, range_with_len}
 use Rattle.clause_circuits.specs.Gates.{lit_of}
-use Rattle.clause_formulas.specs.Statements.{Statement, atom, eval, opposite, any_statement, all_statements}
-
-unfoldable pub conjunction : Statement → Statement → Statement
-conjunction f g = all_statements (f ∷ g ∷ [])
-
-unfoldable pub implication_clause : Statement → Statement → Statement
-implication_clause f g = any_statement (opposite f ∷ g ∷ [])
+use Rattle.clause_formulas.specs.Statements.{Statement, atom, eval, opposite, any_statement}
 
 -- as many variables as digits, in a row
 abbrev pub digit_row : ℕ → ℕ → List Statement

@@ -6,8 +6,8 @@ use Rattle.level_encoding.specs.Counts.{total_below, count_below}
 use Rattle.clause_store.specs.declared.Lit.{Lit}
 use Rattle.level_encoding.specs.declared.input.Arc.{Arc}
 use Rattle.clause_circuits.specs.Gates.{lit_of}
-use Rattle.clause_formulas.specs.Statements.{Statement, atom, opposite, any_statement}
-use Rattle.level_encoding.specs.Composed.{conjunction, implication_clause, rising, digit_row}
+use Rattle.clause_formulas.specs.Statements.{Statement, atom, opposite, any_statement, both_statements, implication_of}
+use Rattle.level_encoding.specs.Composed.{rising, digit_row}
 use Rattle.level_encoding.specs.Input.{LevelData, numbers, same, possible, node, literal_at, is_root_number, is_asked_target}
 
 abbrev pub numbers_below : ℕ → List ℕ
@@ -86,13 +86,13 @@ node_rules s i = if is_root_number s i then [] else any_statement (opposite (nod
 
 -- an arc begins a path to q
 unfoldable pub begins_path : LevelData → ℕ → Arc → Statement
-begins_path s q a = if a.child == q then atom a.lit else conjunction (atom a.lit) (path s a.child q)
+begins_path s q a = if a.child == q then atom a.lit else both_statements (atom a.lit) (path s a.child q)
 
 -- a path leads from p to q exactly where some arc begins one
 unfoldable pub way_rules : LevelData → ℕ → ℕ → List Statement
 way_rules s q p =
     any_statement (opposite (path s p q) ∷ map (begins_path s q) (arcs_leaving s p))
-    ∷ map (λ a. implication_clause (begins_path s q a) (path s p q)) (arcs_leaving s p)
+    ∷ map (λ a. implication_of (begins_path s q a) (path s p q)) (arcs_leaving s p)
 
 unfoldable pub path_rules : LevelData → ℕ → List Statement
 path_rules s q = flat_map (way_rules s q) (filter (leads s q) (numbers_below (numbers s)))

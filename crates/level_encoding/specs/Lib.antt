@@ -8,3 +8,4 @@ pub mod Laws
 pub mod Rows
 -- what is inside
 pub mod Plan
+pub mod Towards

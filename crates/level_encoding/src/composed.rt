@@ -4,7 +4,7 @@ ghost use Rattle.std.specs.Prelude.{◌≡◌, ◌+◌, ◌-◌, ◌<◌, ◌≤
 ghost use Rattle.std.specs.Option.{option_to_list};
 ghost use Rattle.clause_circuits.specs.Gates.{lit_of};
 ghost use Rattle.clause_formulas.specs.Statements.{atom, never, any_statement, opposite};
-ghost use Rattle.level_encoding.specs.Composed.{conjunction, implication_clause, last_rules, digit_rules, rising, digit_row};
+ghost use Rattle.level_encoding.specs.Composed.{last_rules, digit_rules, rising, digit_row};
 
 use clause_formulas::Formula;
 use clause_store::{Lit, Var};
@@ -25,28 +25,6 @@ pub(crate) fn never(alloc: Global) -> Formula
     ensures { result ≡ never }
 {
     Formula::any(Vec::new(alloc))
-}
-
-/// True where both formulas are.
-#[tactic(auto, unfolding(crate::specs::Composed::conjunction))]
-pub(crate) fn both(alloc: Global, f: Formula, g: Formula) -> Result<Formula, AllocError>
-    ensures { IfOk result (λ h. h ≡ conjunction f g) }
-{
-    let mut parts = Vec::new(alloc);
-    parts.push(f.negated())?;
-    parts.push(g.negated())?;
-    Ok(Formula::any(parts).negated())
-}
-
-/// True where the second formula is, or the first is not.
-#[tactic(auto, unfolding(crate::specs::Composed::implication_clause))]
-pub(crate) fn implies(alloc: Global, f: Formula, g: Formula) -> Result<Formula, AllocError>
-    ensures { IfOk result (λ h. h ≡ implication_clause f g) }
-{
-    let mut parts = Vec::new(alloc);
-    parts.push(f.negated())?;
-    parts.push(g)?;
-    Ok(Formula::any(parts))
 }
 
 /// A formula is false, or one of two variables or their negations is true.

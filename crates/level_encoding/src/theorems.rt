@@ -2,8 +2,8 @@
 //! contracts.
 
 ghost use Rattle.std.specs.Prelude.{◌≡◌, ℕ, ◌+◌, ◌*◌, ◌≤◌, Bool, true, false, length, [], ◌∷◌, ◌==◌, ◌&&◌, not};
-ghost use Rattle.clause_formulas.specs.Statements.{any_statement, opposite};
-ghost use Rattle.level_encoding.specs.Composed.{conjunction, implication_clause, Meets};
+ghost use Rattle.clause_formulas.specs.Statements.{any_statement, opposite, both_statements, implication_of};
+ghost use Rattle.level_encoding.specs.Composed.{Meets};
 ghost use Rattle.level_encoding.specs.Input.{LevelData, IsRight, numbers};
 ghost use Rattle.level_encoding.specs.Encoding.{constraints, end};
 ghost use Rattle.level_encoding.specs.Laws.{IsSound, IsExact, StartsChosen, HasModel, AllSaidBelow};
@@ -34,11 +34,11 @@ pub fn worked_levels()
         ∷ any_statement (opposite (holds 4) ∷ holds 6 ∷ [])
         ∷ any_statement (opposite (holds 1) ∷ holds 3 ∷ [])
         ∷ any_statement (opposite (holds 2) ∷ holds 5 ∷ [])
-        ∷ any_statement (opposite (holds 8) ∷ conjunction (holds 3) (holds 9) ∷ [])
-        ∷ implication_clause (conjunction (holds 3) (holds 9)) (holds 8)
-        ∷ any_statement (opposite (holds 9) ∷ conjunction (holds 4) (holds 8) ∷ holds 5 ∷ [])
-        ∷ implication_clause (conjunction (holds 4) (holds 8)) (holds 9)
-        ∷ implication_clause (holds 5) (holds 9)
+        ∷ any_statement (opposite (holds 8) ∷ both_statements (holds 3) (holds 9) ∷ [])
+        ∷ implication_of (both_statements (holds 3) (holds 9)) (holds 8)
+        ∷ any_statement (opposite (holds 9) ∷ both_statements (holds 4) (holds 8) ∷ holds 5 ∷ [])
+        ∷ implication_of (both_statements (holds 4) (holds 8)) (holds 9)
+        ∷ implication_of (holds 5) (holds 9)
         ∷ [] }
     ensures last { end loop_and_tail ≡ 10 }
     // One of two arcs that lead to each other.
@@ -50,6 +50,6 @@ pub fn worked_levels()
         ≡ opposite (holds 1)
         ∷ any_statement (opposite (holds 0) ∷ holds 1 ∷ [])
         ∷ any_statement (opposite (holds 2) ∷ holds 1 ∷ [])
-        ∷ implication_clause (holds 1) (holds 2)
+        ∷ implication_of (holds 1) (holds 2)
         ∷ [] }
 {}

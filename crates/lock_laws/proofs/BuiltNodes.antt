@@ -25,7 +25,8 @@ use Rattle.graph_rules.specs.Valid.{keeps, valid}
 use Rattle.graph_rules.specs.declared.rule.Rule.TheVariants as rules
 use Rattle.graph_rules.proofs.KeptLaws.{lists-same}
 use Rattle.graph_rules.proofs.Lists.{In, In-among, any-in, bytes_eq-same, list_all-each, some-and}
-use Rattle.graph_rules.proofs.ValidLaws.{at_built, rule-of}
+use Rattle.graph_rules.proofs.ValidLaws.{rule-of}
+use Rattle.graph_rules.proofs.BuiltTests.{at_built}
 use Rattle.lockfile.specs.Again.{Has, IsCompiler, IsVariant}
 use Rattle.lockfile.specs.Writable.{HasForms}
 use Rattle.lock_laws.specs.Forms.{IsFormedProblem}

@@ -19,7 +19,8 @@ use Rattle.condition_rules.specs.Words.{implies, is_some_and}
 use Rattle.problem.specs.Nodes.{covers, is_installed}
 use Rattle.problem.specs.Problems.{Problem, record_at}
 use Rattle.problem.specs.Records.{kept_dependencies}
-use Rattle.graph_rules.specs.Kept.{installed_node, is_child, is_recorded, keeps_child, keeps_origin, same_attributes}
+use Rattle.graph_rules.specs.Kept.{is_child, is_recorded, keeps_child, keeps_origin, same_attributes}
+use Rattle.reuse_db.specs.Installed.{installed_node}
 use Rattle.graph_rules.proofs.KeptLaws.{lists-same}
 use Rattle.graph_rules.proofs.Lists.{In, In-contains, In-map, any-in, bytes_eq-itself, bytes_eq-same, contains-In, from_filter, from_map, list_all-each, some-and, to_filter}
 use Rattle.lock_writer.specs.Hashes.{child_of, hash_over, node_hash}
@@ -47,7 +48,8 @@ kinds-same a b h k =
     λ i. record { build = build i; link = link i; run = run i }
 
 -- an installed node has that origin
-origin-is : (hash : Text) (node : Node) (origin : Origin) → node.origin ≡ origin → is_installed hash node ≡ true → node.origin ≡ Installed hash
+origin-is : (hash : Text) (node : Node) (origin : Origin) → node.origin ≡ origin → is_installed hash node ≡ true
+    → node.origin ≡ Installed hash
 origin-is hash node Built e h = absurd (let bad : false ≡ true = rw e at h in cc)
 origin-is hash node (External place) e h = absurd (let bad : false ≡ true = rw e at h in cc)
 origin-is hash node (Installed other) e h =
@@ -104,7 +106,8 @@ module _ (problem : Problem) (graph : Content) (is : IsGraph graph)
       let kinds = and_parts _ _ told.0 in
       let of_hash : node_hash graph edge.0.child ≡ d.hash =
       ap (node_hash graph) ends.2 ∙ hash-of some.0.name target.0 d.hash target.1 target.2 in
-      let of_kinds : edge.0.kinds ≡ record d.kinds { build = false } = kinds-same edge.0.kinds (record d.kinds { build = false }) kinds.0 kinds.1 in
+      let of_kinds : edge.0.kinds ≡ record d.kinds { build = false } =
+      kinds-same edge.0.kinds (record d.kinds { build = false }) kinds.0 kinds.1 in
       let of_virtuals : edge.0.virtuals ≡ d.virtuals = lists-same bytes_eq bytes_eq-same edge.0.virtuals d.virtuals told.1 in (
         edge.0,
         to_filter (λ (e : Edge). bytes_eq e.parent node.name) graph.edges edge.0 ends.0

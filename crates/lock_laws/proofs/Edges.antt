@@ -22,7 +22,8 @@ use Rattle.graph_rules.specs.Valid.{keeps, valid}
 use Rattle.graph_rules.specs.Whole.{keeps_provider}
 use Rattle.graph_rules.specs.declared.rule.Rule.TheVariants as rules
 use Rattle.graph_rules.proofs.Lists.{In, any-in, bytes_eq-itself, bytes_eq-same, contains-In, from_filter, from_map, list_all-each, some-and, to_filter}
-use Rattle.graph_rules.proofs.ValidLaws.{at_built, rule-of}
+use Rattle.graph_rules.proofs.ValidLaws.{rule-of}
+use Rattle.graph_rules.proofs.BuiltTests.{at_built}
 use Rattle.lock_writer.specs.Hashes.{hash_over, node_hash}
 use Rattle.lockfile.specs.Again.{AreVirtuals, Has, HasKind, IsDependency}
 use Rattle.lock_laws.specs.Forms.{IsFormedProblem, IsFormedRecipe}
@@ -33,7 +34,8 @@ use Rattle.lock_laws.proofs.Records.{record-is}
 
 module _ (problem : Problem) (graph : Content) (formed : IsFormedProblem problem) (right : IsWellFormed graph)
     (v : valid problem graph ≡ true)
-    (hashes : (name : Text) (node : Node) → node_of graph name ≡ Some node → node_hash graph name ≡ hash_over graph (node_hash graph) node) where
+    (hashes : (name : Text) (node : Node) → node_of graph name ≡ Some node
+    → node_hash graph name ≡ hash_over graph (node_hash graph) node) where
   -- what recipes provide has a name
   virtual-is : (name : Text) → is_virtual problem.recipes name ≡ true → Has name_meaning name
   unfolding is_virtual provides_name
@@ -52,7 +54,8 @@ module _ (problem : Problem) (graph : Content) (formed : IsFormedProblem problem
       let node = some-and (node_of graph p.1) (λ node. provides (world_of problem) node p.0 None) kept in
       let row = any-in (row_provides (world_of problem) node.0 p.0 None) (provides_at problem node.0.name) node.2 in
       subst (Has name_meaning) (bytes_eq-same row.0.name p.0 (and_parts (bytes_eq row.0.name p.0) _ (and_parts _ _ row.2).0).0)
-      (row-is problem formed (λ recipe. recipe.provides) (λ (r : ProvideRow). Has name_meaning r.name) (λ recipe r. r.provides) node.0.name row.0
+      (row-is problem formed (λ recipe. recipe.provides) (λ (r : ProvideRow). Has name_meaning r.name) (λ recipe r. r.provides)
+      node.0.name row.0
       row.1))
 
   -- ---- edges

@@ -15,7 +15,7 @@ use Rattle.condition_rules.specs.Words.{find_last}
 use Rattle.problem.specs.Problems.{Problem, externals_in, package_entry_of, variants_at}
 use Rattle.graph_rules.specs.Kept.{Variants, completed, default_in, external_node, first_text, written_or}
 use Rattle.graph_rules.proofs.Lists.{In, In-contains, bytes_eq-itself, bytes_eq-same, find-in, from_map}
-use Rattle.graph_rules.proofs.ValidLaws.{slice_get-in}
+use Rattle.graph_rules.proofs.NumberedRows.{slice_get-in}
 use Rattle.lockfile.specs.Again.{Has, IsVariant}
 use Rattle.lockfile.specs.Writable.{HasForms}
 use Rattle.lock_laws.specs.Forms.{IsFormedExternal, IsFormedProblem, IsFormedRow}
@@ -108,7 +108,8 @@ module _ (problem : Problem) (formed : IsFormedProblem problem) where
   external-forms name place entry at =
       let is = entry-is name place entry at in
       let rows = variants_at problem name in
-      let rows-are = all-from IsFormedRow rows (row-is problem formed (λ recipe. recipe.variants) IsFormedRow (λ recipe r. r.variants) name) in
+      let rows-are =
+      all-from IsFormedRow rows (row-is problem formed (λ recipe. recipe.variants) IsFormedRow (λ recipe r. r.variants) name) in
       let all : List Text = map (λ v. v.0) entry.variants ++ map (λ row. row.name) rows in
       let names : List Text = with_texts [] all in
       record {

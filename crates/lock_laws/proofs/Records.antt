@@ -5,7 +5,7 @@ use Rattle.graph_core.specs.Graphs.{Text}
 use Rattle.graph_core.specs.declared.node.Origin.TheVariants.{Installed}
 use Rattle.reuse_db.specs.declared.record.Record.{Record}
 use Rattle.problem.specs.Problems.{Problem, record_at}
-use Rattle.graph_rules.specs.Kept.{installed_node}
+use Rattle.reuse_db.specs.Installed.{installed_node}
 use Rattle.graph_rules.proofs.Lists.{find-in}
 use Rattle.lockfile.specs.Again.{IsRecord}
 use Rattle.lockfile.specs.Writable.{AreDependencies, HasForms}

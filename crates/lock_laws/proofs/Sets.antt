@@ -37,6 +37,7 @@ from-set words q there = elim (from-texts [] words q there) [
 ]
 
 -- pairs have the names that they were made of
-pub names-of-pairs : {V : Type 0} (f : List ℕ → V) (names : Texts) → map (λ (v : List ℕ × V). v.0) (map (λ name. (name, f name)) names) ≡ names
+pub names-of-pairs : {V : Type 0} (f : List ℕ → V) (names : Texts)
+    → map (λ (v : List ℕ × V). v.0) (map (λ name. (name, f name)) names) ≡ names
 names-of-pairs f [] = refl
 names-of-pairs f (name ∷ names) = ap (λ rest. name ∷ rest) (names-of-pairs f names)

@@ -10,7 +10,8 @@ use Rattle.graph_core.specs.declared.node.Origin.TheVariants.{Built, External, I
 use Rattle.reuse_db.specs.declared.record.Record.{Record}
 use Rattle.problem.specs.Nodes.{IsWellFormed}
 use Rattle.problem.specs.Problems.{Problem, record_at}
-use Rattle.graph_rules.specs.Kept.{installed_node, keeps_kept, keeps_origin}
+use Rattle.graph_rules.specs.Kept.{keeps_kept, keeps_origin}
+use Rattle.reuse_db.specs.Installed.{installed_node}
 use Rattle.graph_rules.specs.Valid.{keeps, valid}
 use Rattle.graph_rules.specs.Whole.{keeps_no_cycle}
 use Rattle.graph_rules.specs.declared.rule.Rule.TheVariants as rules

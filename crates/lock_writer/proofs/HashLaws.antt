@@ -87,7 +87,8 @@ module _ (g : Content) (graph : IsGraph g) where
     same_at f h name (Some node) named same =
         ap (λ list. hash_by node.origin (right_hash (record_of_node node [] list)))
         (map_same (child_of f) (child_of h) (edges_from g node.name)
-        (λ edge has. ap (λ hash. record { hash = hash; kinds = edge.kinds; virtuals = edge.virtuals }) (same edge (subst (λ n. Contains (edges_from g n) edge) (named node refl) has))))
+        (λ edge has. ap (λ hash. record { hash = hash; kinds = edge.kinds; virtuals = edge.virtuals })
+        (same edge (subst (λ n. Contains (edges_from g n) edge) (named node refl) has))))
 
     -- over more steps the hash is the same
     settled : (k : ℕ) (name : Text) → HasNode g name → waits g name ≤ k → (j : ℕ) → k ≤ j → hash_within j g name ≡ hash_within k g name

@@ -33,7 +33,8 @@ external_again None = refl
 external_again (Some prefix) = refl
 
 dependencies_sorted : (dependencies : List Dependency) → All IsDependency dependencies
-    → set_of Some (Some (codes "hash")) (dependency_at true) (array (values_of (dependency_members dependencies))) ≡ Ok (by_hash dependencies)
+    → set_of Some (Some (codes "hash")) (dependency_at true) (array (values_of (dependency_members dependencies)))
+    ≡ Ok (by_hash dependencies)
 dependencies_sorted dependencies each =
     ap (λ ms. set_of Some (Some (codes "hash")) (dependency_at true) (array (values_of ms))) (sym (same_members dependencies))
     ∙ dependencies_again (by_hash dependencies) (still IsDependency dependencies each) (in_order dependencies)

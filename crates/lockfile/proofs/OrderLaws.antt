@@ -105,7 +105,8 @@ in_placed d (e ∷ es) = in_placed-cases (byte_cmp d.hash e.hash) (in_placed d e
     in_placed-cases Equal rest = has_first d es
     in_placed-cases Greater rest = has_later e (placed d es) d rest
 
-still_placed : (d : Dependency) (es : List Dependency) (q : Dependency) → (q.hash ≡ d.hash → q ≡ d) → Contains es q → Contains (placed d es) q
+still_placed : (d : Dependency) (es : List Dependency) (q : Dependency) → (q.hash ≡ d.hash → q ≡ d) → Contains es q
+    → Contains (placed d es) q
 still_placed d [] q once has = absurd (lacks_all q has)
 still_placed d (e ∷ es) q once has = still_placed-cases (byte_cmp d.hash e.hash) refl (λ later. still_placed d es q once later)
   where
@@ -130,7 +131,8 @@ in_folded es (d ∷ ds) q once has = in_folded (placed d es) ds q (λ e there. o
     has)
 
 -- the same dependencies, in another order
-pub same_dependencies : (ds : List Dependency) → ((a b : Dependency) → Contains ds a → Contains ds b → a.hash ≡ b.hash → a ≡ b) → (d : Dependency)
+pub same_dependencies : (ds : List Dependency) → ((a b : Dependency) → Contains ds a → Contains ds b → a.hash ≡ b.hash → a ≡ b)
+    → (d : Dependency)
     → Contains ds d ↔ Contains (by_hash ds) d
 same_dependencies ds once d = (
   λ has. in_folded [] ds d (λ e there. once d e has there) (inr has),

@@ -76,7 +76,8 @@ names_again names some fit =
     )
     (last names some (sym (one_by_one names names fit.order (λ q. (λ h. h, λ h. h)))))
 
-virtuals_again : (name : Text) (names : List Text) → AreVirtuals (name ∷ names) → virtuals_at (texts_data (name ∷ names)) ≡ Ok (name ∷ names)
+virtuals_again : (name : Text) (names : List Text) → AreVirtuals (name ∷ names)
+    → virtuals_at (texts_data (name ∷ names)) ≡ Ok (name ∷ names)
 virtuals_again name names fit = names_again (name ∷ names) (cons_some name names) fit
   where
     cons_some : (x : Text) (xs : List Text) → x ∷ xs ≡ [] → ⊥

@@ -23,7 +23,7 @@ use Rattle.json_readers.proofs.Steps as steps
 use Rattle.json_texts.specs.Forms.{name_meaning}
 use Rattle.graph_core.specs.Graphs.{Text}
 use Rattle.graph_core.specs.declared.node.Origin.{Origin}
-use Rattle.record_reader.specs.Files.{may_name}
+use Rattle.record_reader.specs.Files.{may_name_virtuals}
 use Rattle.record_reader.specs.Records.{back_at}
 use Rattle.reuse_db.specs.declared.record.Record.{Record}
 use Rattle.lockfile.specs.Files.{AreProvided, node_among, body_at, file_at, lock_file_keys, head_at, node_names, node_at, node_keys, origin_by, providers_at, roots_at}
@@ -113,19 +113,22 @@ unfolding file_at
 provided d file e =
     let ms = bind_ok (members_of d) _ file e in
     let odd = first_odd lock_file_keys ms.0 in
-    let nodes = bind_ok (field (list_of (node_at (may_name ms.0))) odd (codes "nodes") ms.0) _ file ms.2 in
+    let nodes = bind_ok (field (list_of (node_at (may_name_virtuals ms.0))) odd (codes "nodes") ms.0) _ file ms.2 in
     let providers = bind_ok (providers_at nodes.0 odd ms.0) _ file nodes.2 in
     let roots = bind_ok (roots_at odd ms.0) _ file providers.2 in
-    let is : record { nodes = nodes.0; providers = providers.0; roots = roots.0.0; version = roots.0.1 } ≡ file = let same = roots.2 in cc in
+    let is : record { nodes = nodes.0; providers = providers.0; roots = roots.0.0; version = roots.0.1 } ≡ file = let same =
+    roots.2 in cc in
     let read = field_ok _ odd (codes "providers") ms.0 providers.0 providers.1 in
     subst AreProvided is (provider_ok nodes.0 read.0 providers.0 read.1)
 
 -- ---- nodes
 
 -- what was read of a node, from its three runs of keys
-pub node_read : (may_name : Bool) (d : Data) (ms : Members) (odd : Option Text) (head : NodeHead) (body : Body) (described : Record) (origin : Origin)
-    → members_of d ≡ Ok ms → odd ≡ first_odd node_keys ms → head_at may_name odd ms ≡ Ok head
+pub node_read : (may_name_virtuals : Bool) (d : Data) (ms : Members) (odd : Option Text) (head : NodeHead) (body : Body) (described : Record)
+    (origin : Origin)
+    → members_of d ≡ Ok ms → odd ≡ first_odd node_keys ms → head_at may_name_virtuals odd ms ≡ Ok head
     → body_at odd ms ≡ Ok body → back_at head.front body.middle odd ms ≡ Ok described
-    → origin ≡ origin_by head.entry body.origin body.middle.hash → node_at may_name d ≡ Ok (record { described = described; origin = origin })
+    → origin ≡ origin_by head.entry body.origin body.middle.hash
+    → node_at may_name_virtuals d ≡ Ok (record { described = described; origin = origin })
 unfolding node_at
-node_read may_name d ms odd head body described origin members is first second third by = rw (members, ← is, first, second, third, by) refl
+node_read may_name_virtuals d ms odd head body described origin members is first second third by = rw (members, ← is, first, second, third, by) refl

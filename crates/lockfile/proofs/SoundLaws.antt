@@ -102,7 +102,8 @@ module _ (g : Content) (records : List Record) (graph : IsGraph g) (right : AreR
   edge_again node has e there =
       let from = from_node g node.name e there in
       let child = All-contains (λ (x : Edge). HasNode g x.child) g.edges e graph.children from.0 in
-      rw (named e.child child) (ap (λ parent. Some (let x : Edge = record { parent = parent; child = e.child; kinds = e.kinds; virtuals = e.virtuals } in x))
+      rw (named e.child child)
+      (ap (λ parent. Some (let x : Edge = record { parent = parent; child = e.child; kinds = e.kinds; virtuals = e.virtuals } in x))
       (name_written node has ∙ sym from.1))
 
   -- what is read of the child of an edge is an edge

@@ -15,7 +15,7 @@ use Rattle.graph_core.specs.Graphs.{Text}
 use Rattle.graph_core.specs.declared.node.Origin.{Origin}
 use Rattle.graph_core.specs.declared.node.Origin.TheVariants.{Built, External, Installed}
 use Rattle.record_reader.specs.Texts.{hash_meaning}
-use Rattle.record_reader.specs.Files.{may_name, version_at}
+use Rattle.record_reader.specs.Files.{may_name_virtuals, version_at}
 use Rattle.record_reader.specs.Records.{front_at, middle_at, back_at}
 use Rattle.lockfile.specs.declared.file.File.{File}
 use Rattle.lockfile.specs.declared.node.Body.{Body}
@@ -51,8 +51,8 @@ node_keys = codes "compiler" ∷ codes "dependencies" ∷ codes "entry" ∷ code
 
 -- its keys up to `entry`; in the format's second version dependencies may name virtuals
 unfoldable pub head_at : Bool → Option Text → Members → Reading NodeHead
-head_at may_name odd ms = do
-  front ← front_at may_name odd ms
+head_at may_name_virtuals odd ms = do
+  front ← front_at may_name_virtuals odd ms
   entry ← field (entry_at (is_external ms)) odd (codes "entry") ms
   Ok (record { front = front; entry = entry })
 
@@ -65,10 +65,10 @@ body_at odd ms = do
 
 -- a record with `entry` and `origin` among its keys
 unfoldable pub node_at : Bool → Data → Reading LockedNode
-node_at may_name d = do
+node_at may_name_virtuals d = do
   ms ← members_of d
   let odd = first_odd node_keys ms in do
-    head ← head_at may_name odd ms
+    head ← head_at may_name_virtuals odd ms
     body ← body_at odd ms
     described ← back_at head.front body.middle odd ms
     Ok (record { described = described; origin = origin_by head.entry body.origin body.middle.hash })
@@ -110,7 +110,7 @@ unfoldable pub file_at : Data → Reading File
 file_at d = do
   ms ← members_of d
   let odd = first_odd lock_file_keys ms in do
-    nodes ← field (list_of (node_at (may_name ms))) odd (codes "nodes") ms
+    nodes ← field (list_of (node_at (may_name_virtuals ms))) odd (codes "nodes") ms
     providers ← providers_at nodes odd ms
     last ← roots_at odd ms
     Ok (record { nodes = nodes; providers = providers; roots = last.0; version = last.1 })

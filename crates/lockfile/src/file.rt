@@ -14,7 +14,7 @@ use json_readers::{
 };
 use json_texts::Name;
 use plain_data::{Duplicate, List, Word};
-use record_reader::{FileVersion, HashText, may_name};
+use record_reader::{FileVersion, HashText, may_name_virtuals};
 use serde_json::{Map, Value};
 use spec_hash::Hash;
 use std::alloc::{AllocError, Global};
@@ -44,7 +44,7 @@ impl Reader<File> for FileForm {
         let members = members_of(alloc, value)?;
         let odd = first_odd(members, &["nodes", "providers", "roots", "version"]);
         let form = NodeForm {
-            may_name: may_name(members),
+            may_name_virtuals: may_name_virtuals(members),
         };
         let nodes = field(alloc, members, odd, "nodes", &ListOf(form))?;
         let providers = read_providers(alloc, members, odd, &nodes)?;

@@ -29,11 +29,11 @@ pub struct LockedNode {
 #[derive(Clone, Copy)]
 pub(crate) struct NodeForm {
     /// Whether dependencies may name virtuals.
-    pub(crate) may_name: bool,
+    pub(crate) may_name_virtuals: bool,
 }
 
 impl Reader<LockedNode> for NodeForm {
-    ghost reads = { λ form. node_at form.may_name };
+    ghost reads = { λ form. node_at form.may_name_virtuals };
 
     #[tactic(auto, unfolding(crate::specs::Files::node_at))]
     fn read(&self, alloc: Global, value: &Value) -> Result<LockedNode, JsonFault> {
@@ -52,7 +52,7 @@ impl Reader<LockedNode> for NodeForm {
             "version",
         ];
         let odd = first_odd(members, &keys);
-        let head = read_head(alloc, members, odd, self.may_name)?;
+        let head = read_head(alloc, members, odd, self.may_name_virtuals)?;
         let body = read_body(alloc, members, odd)?;
         let origin = origin_by(head.entry, &body.origin, &body.middle.hash);
         let described = read_back(alloc, members, odd, head.front, body.middle)?;
@@ -80,12 +80,12 @@ fn read_head(
     alloc: Global,
     members: &Map<String, Value>,
     odd: Option<&str>,
-    may_name: bool,
+    may_name_virtuals: bool,
 ) -> Result<NodeHead, JsonFault>
-    ensures { Gives result (head_at may_name (option_map (λ k. k.now) odd.entry)
+    ensures { Gives result (head_at may_name_virtuals (option_map (λ k. k.now) odd.entry)
         (members_view members.now.entries)) }
 {
-    let front = read_front(alloc, members, odd, may_name)?;
+    let front = read_front(alloc, members, odd, may_name_virtuals)?;
     let form = EntryForm {
         external: is_external(members),
     };

@@ -5,7 +5,7 @@ use Rattle.std.specs.Option.{option_map}
 use Rattle.std.proofs.lemmas.Bool.{cases_Bool}
 use Rattle.clause_store.specs.declared.Lit.{Lit}
 use Rattle.clause_store.specs.Lits.{var_of, contained, IsClause}
-use Rattle.proof_log.specs.Resolution.{resolved, clause_at, chain_fault, fault_from, after_step, IdsIn, ChainFault}
+use Rattle.proof_log.specs.Resolution.{resolved, clause_at, chain_fault, fault_from, after_step, IdsIn}
 use Rattle.proof_log.specs.Resolution as fault
 use Rattle.log_checker.specs.declared.known.Known.{Known}
 use Rattle.log_checker.specs.declared.step.Why.{Why}

@@ -182,8 +182,13 @@ resolved-one f a b l i j e n = go (resolved a b) refl
         × AreSigns (λ x. if eqb (var_of l) x then None else over (sign_in b x) (f x)) r
     go no_pivot q = absurd (resolved-no_pivot a b q (negation l) clash)
     go two_pivots q = let t = resolved-two_pivots a b (one b j) q in absurd (t.4 (only t.0 t.2 ∙ sym (only t.1 t.3)))
-    go (result r) q = let t = resolved-result a b r i j q in
-        (r, q, t.2, (λ x. sym (same-signs (sign_in r x) (if eqb (var_of l) x then None else over (sign_in b x) (f x)) (each t.0 t.1 t.2 x))))
+    go (result r) q = let t = resolved-result a b r i j q in (
+      r,
+      q,
+      t.2,
+      (λ x. sym (same-signs (sign_in r x) (if eqb (var_of l) x then None else over (sign_in b x) (f x))
+          (each t.0 t.1 t.2 x))),
+    )
       where
         each : (p : Lit) → IsResolvent a b r p → IsClause r → (x : ℕ) (v : Bool)
             → is_bit_value (sign_in r x) v ≡ is_bit_value (if eqb (var_of l) x then None else over (sign_in b x) (f x)) v

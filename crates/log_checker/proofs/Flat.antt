@@ -94,7 +94,8 @@ pub start-within : (from all : ℕ) (ends : List End) (n : ℕ) → n ≤ length
 start-within from all ends zero h c = cut-le from all ends c
 start-within from all ends (suc n) h c = end-le from all ends n c (omega (arith, h))
 
-take-known : (lits : List Lit) (from : ℕ) (ends : List End) (n : ℕ) → known_from lits from (take n ends) ≡ take n (known_from lits from ends)
+take-known : (lits : List Lit) (from : ℕ) (ends : List End) (n : ℕ)
+    → known_from lits from (take n ends) ≡ take n (known_from lits from ends)
 take-known lits from [] zero = refl
 take-known lits from [] (suc n) = refl
 take-known lits from (e ∷ ends) zero = refl
@@ -148,7 +149,8 @@ clause-of (x ∷ ks) zero e q = ap (λ (y : Known). Some y.clause) (same_Some x 
 clause-of (x ∷ ks) (suc k) e q = clause-of ks k e q
 
 -- what is read at a place of the two lists
-module _ (lits : List Lit) (ends : List End) (now : List Known) (view : known_from lits 0 ends ≡ now) (place : ℕ) (h : place < length now) where
+module _ (lits : List Lit) (ends : List End) (now : List Known) (view : known_from lits 0 ends ≡ now) (place : ℕ)
+    (h : place < length now) where
   pub place-in : place < length ends
   place-in = omega (arith, h, ap length view, known-length lits 0 ends)
 

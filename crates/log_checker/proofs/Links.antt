@@ -157,7 +157,8 @@ indexed-more factor heads links heads_new links_new ks at k h e q n f i = (
 )
   where
     more : take (at + 1) ks ≡ take (length links) ks ++ k ∷ []
-    more = take_more ks at k h ∙ ap (λ x. take at ks ++ x ∷ []) (sym (same_Some k (get_or ks at k) (sym e ∙ slice_get-get_or ks at k h))) ∙ ap (λ m. take m ks ++ k ∷ []) q
+    more = take_more ks at k h ∙ ap (λ x. take at ks ++ x ∷ []) (sym (same_Some k (get_or ks at k) (sym e ∙ slice_get-get_or ks at k h)))
+        ∙ ap (λ m. take m ks ++ k ∷ []) q
 
     noted : AreLinked (bucket_of factor (length heads)) heads_new links_new (take (length links) ks ++ k ∷ [])
     noted = f (take (length links) ks) i.1
@@ -186,7 +187,8 @@ pub indexed-none : (factor : ℕ) (heads links : List ℕ) (ks : List Known) →
 indexed-none factor heads links ks e z =
     subst (λ ls. AreIndexed factor heads ls ks) (sym e) (
       omega arith,
-      subst (AreLinked (bucket_of factor (length heads)) heads []) (sym (take-none ks)) (linked-none (bucket_of factor (length heads)) heads z),
+      subst (AreLinked (bucket_of factor (length heads)) heads []) (sym (take-none ks))
+          (linked-none (bucket_of factor (length heads)) heads z),
     )
 
 -- one more clause that is not noted yet

@@ -8,7 +8,7 @@ use Rattle.std.proofs.lemmas.Bool.{false≢true, le-ltb, and_parts, and_from, or
 use Rattle.std.proofs.lemmas.Bool.Decides.{eqb_tells}
 use Rattle.std.proofs.lemmas.Option.{none-some, same_Some, slice_get_past, slice_get_cases}
 use Rattle.std.proofs.lemmas.List.{drop_more, length-set}
-use Rattle.log_checker.specs.Signs.{marked, sign_above, sign_of, SignMap, with_sign, with_touched, is_clear, are_clear, is_listed, AreTouched, IsAbove}
+use Rattle.log_checker.specs.Signs.{marked, sign_above, sign_of, SignMap, with_sign, with_touched, is_clear, are_clear, stands, AreTouched, IsAbove}
 use Rattle.log_checker.proofs.Places.{get-set-same, get-set-other}
 
 pub is_eq-nat_cmp : (a b : ℕ) → is_eq (nat_cmp a b) ≡ eqb a b
@@ -52,16 +52,16 @@ above-put marks m n k w h u x = ap (marked (slice_get marks x))
     ]
 
 -- which variables were touched
-pub listed-push : (xs : List ℕ) (k x : ℕ) → is_listed xs x ≡ true → is_listed (xs ++ k ∷ []) x ≡ true
+pub listed-push : (xs : List ℕ) (k x : ℕ) → stands xs x ≡ true → stands (xs ++ k ∷ []) x ≡ true
 listed-push [] k x h = absurd (false≢true h)
-listed-push (y ∷ ys) k x h = elim (or_cases (eqb y x) (is_listed ys x) h) [
-  | inl p ↦ or_left (eqb y x) (is_listed (ys ++ k ∷ []) x) p
-  | inr p ↦ or_right (eqb y x) (is_listed (ys ++ k ∷ []) x) (listed-push ys k x p)
+listed-push (y ∷ ys) k x h = elim (or_cases (eqb y x) (stands ys x) h) [
+  | inl p ↦ or_left (eqb y x) (stands (ys ++ k ∷ []) x) p
+  | inr p ↦ or_right (eqb y x) (stands (ys ++ k ∷ []) x) (listed-push ys k x p)
 ]
 
-pub listed-last : (xs : List ℕ) (k x : ℕ) → eqb k x ≡ true → is_listed (xs ++ k ∷ []) x ≡ true
+pub listed-last : (xs : List ℕ) (k x : ℕ) → eqb k x ≡ true → stands (xs ++ k ∷ []) x ≡ true
 listed-last [] k x h = or_left (eqb k x) false h
-listed-last (y ∷ ys) k x h = or_right (eqb y x) (is_listed (ys ++ k ∷ []) x) (listed-last ys k x h)
+listed-last (y ∷ ys) k x h = or_right (eqb y x) (stands (ys ++ k ∷ []) x) (listed-last ys k x h)
 
 pub touched-put : (marks : List (Option Bool)) (xs : List ℕ) (k : ℕ) (m w : Option Bool) → slice_get marks k ≡ Some m
     → AreTouched marks xs → AreTouched (slice_set marks k w) (with_touched m xs k)
@@ -70,7 +70,7 @@ touched-put marks xs k None w g a x v e = elim (eqb_tells k x) [
   | inr q ↦ listed-push xs k x (a x v (sym (get-set-other marks k x w q.1) ∙ e))
 ]
 touched-put marks xs k (Some u) w g a x v e = elim (eqb_tells k x) [
-  | inl q ↦ subst (λ z. is_listed xs z ≡ true) q.1 (a k u g)
+  | inl q ↦ subst (λ z. stands xs z ≡ true) q.1 (a k u g)
   | inr q ↦ a x v (sym (get-set-other marks k x w q.1) ∙ e)
 ]
 
@@ -83,31 +83,31 @@ cut-apart marks k x v h e = elim (eqb_tells k x) [
 ]
 
 listed-step : (xs : List ℕ) (i d x : ℕ) → i < length xs
-    → is_listed (drop i xs) x ≡ (eqb (slice_index_or xs i d) x || is_listed (drop (i + 1) xs) x)
-listed-step xs i d x h = ap (λ ys. is_listed ys x) (drop_more xs i d h)
+    → stands (drop i xs) x ≡ (eqb (slice_index_or xs i d) x || stands (drop (i + 1) xs) x)
+listed-step xs i d x h = ap (λ ys. stands ys x) (drop_more xs i d h)
 
 pub cleared-step : (marks : List (Option Bool)) (xs : List ℕ) (i d : ℕ) → i < length xs → slice_index_or xs i d < length marks
     → AreTouched marks (drop i xs) → AreTouched (slice_set marks (slice_index_or xs i d) None) (drop (i + 1) xs)
 cleared-step marks xs i d h k a x v e =
     let p = cut-apart marks (slice_index_or xs i d) x v k e in
-    sym (ap (λ b. b || is_listed (drop (i + 1) xs) x) p.0) ∙ sym (listed-step xs i d x h) ∙ a x v p.1
+    sym (ap (λ b. b || stands (drop (i + 1) xs) x) p.0) ∙ sym (listed-step xs i d x h) ∙ a x v p.1
 
 pub passed-step : (marks : List (Option Bool)) (xs : List ℕ) (i d : ℕ) → i < length xs → length marks ≤ slice_index_or xs i d
     → AreTouched marks (drop i xs) → AreTouched marks (drop (i + 1) xs)
 passed-step marks xs i d h k a x v e = elim (eqb_tells (slice_index_or xs i d) x) [
   | inl q ↦ absurd (none-some (Some v) (sym (slice_get_past marks x (omega (arith, k, q.1))) ∙ e))
-  | inr q ↦ sym (ap (λ b. b || is_listed (drop (i + 1) xs) x) q.0) ∙ sym (listed-step xs i d x h) ∙ a x v e
+  | inr q ↦ sym (ap (λ b. b || stands (drop (i + 1) xs) x) q.0) ∙ sym (listed-step xs i d x h) ∙ a x v e
 ]
 
 -- no sign at all
-clear-listed : (marks : List (Option Bool)) (xs : List ℕ) (x : ℕ) → are_clear marks xs ≡ true → is_listed xs x ≡ true
+clear-listed : (marks : List (Option Bool)) (xs : List ℕ) (x : ℕ) → are_clear marks xs ≡ true → stands xs x ≡ true
     → is_clear (slice_get marks x) ≡ true
 clear-listed marks [] x a h = absurd (false≢true h)
 clear-listed marks (y ∷ ys) x a h =
     let p = and_parts (is_clear (slice_get marks y)) (are_clear marks ys) a in
     elim (eqb_tells y x) [
       | inl q ↦ subst (λ z. is_clear (slice_get marks z) ≡ true) q.1 p.0
-      | inr q ↦ clear-listed marks ys x p.1 (sym (ap (λ b. b || is_listed ys x) q.0) ∙ h)
+      | inr q ↦ clear-listed marks ys x p.1 (sym (ap (λ b. b || stands ys x) q.0) ∙ h)
     ]
 
 clear-marked : (o : Option (Option Bool)) → ((v : Bool) → o ≡ Some (Some v) → ⊥) → marked o None ≡ None

@@ -1,5 +1,5 @@
 -- Where a part of a clause's literals is enough for a step of a chain.
-use Rattle.std.proofs.Common.{◌≡◌, ◌≢◌, ◌⊎◌, ℕ, ◌+◌, ◌<◌, ◌≤◌, Bool, true, false, not, ◌&&◌, ◌||◌, List, [], ◌∷◌, ◌++◌, drop, length, Option, Some, None, inl, inr, refl, sym, ap, ◌∙◌, subst, arith, eqb}
+use Rattle.std.proofs.Common.{◌≡◌, ◌≢◌, ◌⊎◌, ℕ, ◌+◌, ◌<◌, Bool, true, false, not, List, [], ◌∷◌, drop, length, Option, Some, None, inl, inr, refl, sym, ap, ◌∙◌, subst, arith, eqb}
 use Rattle.std.specs.Prelude.{Ok, Err, Result, slice_index_or, if◌then◌else◌}
 use Rattle.std.specs.Bool.{beq}
 use Rattle.std.proofs.lemmas.Bool.{false≢true, or_cases, or_left, or_right}
@@ -13,7 +13,7 @@ use Rattle.log_checker.specs.declared.step.Why.{Why}
 use Rattle.log_checker.specs.declared.step.Why.TheVariants.{NoPivot, TwoPivots}
 use Rattle.log_checker.specs.Steps.{is_bit_value}
 use Rattle.log_checker.specs.Signs.{sign_in, with_sign, opposed, clashes, only_one, overlay}
-use Rattle.log_checker.specs.Uses.{is_other, pivot_or, only_pivot, IsEnough, IsResolved}
+use Rattle.log_checker.specs.Uses.{is_other, only_pivot, IsEnough, IsResolved}
 use Rattle.log_checker.proofs.Clashes.{sign-has, over, overlay-sign, clashes-clause}
 use Rattle.log_checker.proofs.Values.{value-is, beq-refl}
 
@@ -189,7 +189,8 @@ overlay-part c (m ∷ ms) f x i a s =
         → overlay ms g x ≡ over (sign_in c x) (f x)
     on b e ih =
         let here : g x ≡ Some m.positive = ap (λ t. if t then Some m.positive else f x) b in
-        let sign : sign_in c x ≡ Some m.positive = subst (λ z. sign_in c z ≡ Some m.positive) e (sign-of-lit c m i (a m (first-has m ms))) in
+        let sign : sign_in c x ≡ Some m.positive =
+        subst (λ z. sign_in c z ≡ Some m.positive) e (sign-of-lit c m i (a m (first-has m ms))) in
         ih (inl (here ∙ sym (ap (λ o. over o (g x)) sign))) ∙ ap (λ o. over o (g x)) sign ∙ sym (ap (λ o. over o (f x)) sign)
 
     off : eqb (var_of m) x ≡ false → var_of m ≢ x → (Stands g c ms x → overlay ms g x ≡ over (sign_in c x) (g x))

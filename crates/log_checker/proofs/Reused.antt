@@ -1,25 +1,23 @@
 -- What is kept of the steps of a chain.
-use Rattle.std.proofs.Common.{◌≡◌, ◌≢◌, ◌⊎◌, ℕ, zero, suc, ◌+◌, ◌<◌, ◌≤◌, Bool, true, false, not, ◌||◌, List, [], ◌∷◌, ◌++◌, drop, length, Option, Some, None, inl, inr, refl, sym, ap, ◌∙◌, subst, arith, eqb, ltb, cond, append_assoc, slice_get}
-use Rattle.std.specs.Prelude.{Ok, Err, slice_index_or, nat_lt, if◌then◌else◌}
+use Rattle.std.proofs.Common.{◌≡◌, ◌≢◌, ◌⊎◌, ℕ, suc, ◌+◌, ◌<◌, ◌≤◌, Bool, true, false, not, List, [], ◌∷◌, ◌++◌, drop, length, Option, Some, None, inl, inr, refl, sym, ap, ◌∙◌, subst, arith, eqb, cond, append_assoc, slice_get}
+use Rattle.std.specs.Prelude.{Ok, slice_index_or, nat_lt, if◌then◌else◌}
 use Rattle.std.specs.Ordering.{nat_cmp}
 use Rattle.std.specs.BTreeMap.{BTreeMap, Updates}
 use Rattle.std.specs.Bool.{beq}
 use Rattle.std.proofs.lemmas.Bool.{false≢true, or_cases, or_left, or_right}
 use Rattle.std.proofs.lemmas.Bool.Decides.{eqb_tells}
 use Rattle.std.proofs.lemmas.Option.{none-some, same_Some}
-use Rattle.std.proofs.lemmas.List.{drop_more, drop_all, drop-append-le, length-append, append-nil}
-use Rattle.std.proofs.Math.Seq.{drop-append_seam}
+use Rattle.std.proofs.lemmas.List.{drop_more, drop-append-le, length-append}
 use Rattle.clause_store.specs.declared.Lit.{Lit}
 use Rattle.clause_store.specs.Lits.{var_of, has, lit_eq, place_of, IsClause, AllAbove}
 use Rattle.clause_store.proofs.Sets.{same_lit, lit_eq-refl}
 use Rattle.proof_log.proofs.Counting.{lit}
-use Rattle.log_checker.specs.declared.step.Why.{Why}
 use Rattle.log_checker.specs.Steps.{is_bit_value}
-use Rattle.log_checker.specs.Signs.{sign_in, with_sign, opposed, clashes, only_one, overlay, is_listed}
+use Rattle.log_checker.specs.Signs.{sign_in, clashes, only_one, overlay, stands}
 use Rattle.log_checker.specs.Uses.{Used, last_at, IsSince, IsNoted, IsStep, IsKeptOf, IsEnough, IsResolved, lit_at, with_found, lits_at}
 use Rattle.log_checker.proofs.Clashes.{sign-has, over, overlay-sign}
-use Rattle.log_checker.proofs.Values.{value-is, beq-refl}
-use Rattle.log_checker.proofs.Marks.{is_eq-nat_cmp, cond-if, listed-push, listed-last}
+use Rattle.log_checker.proofs.Values.{beq-refl}
+use Rattle.log_checker.proofs.Marks.{is_eq-nat_cmp, cond-if, listed-last}
 use Rattle.log_checker.proofs.Parts.{clash-in, sign-of-lit}
 
 -- the literal of a variable
@@ -112,10 +110,10 @@ found-has c (x ∷ xs) m h = go (lit_at c x) refl (λ g. found-has c xs m g) h
       | inr p ↦ ih p
     ]
 
-has-found : (c : List Lit) (xs : List ℕ) (m : Lit) → IsClause c → has c m ≡ true → is_listed xs (var_of m) ≡ true
+has-found : (c : List Lit) (xs : List ℕ) (m : Lit) → IsClause c → has c m ≡ true → stands xs (var_of m) ≡ true
     → has (lits_at c xs) m ≡ true
 has-found c [] m i h l = absurd (false≢true l)
-has-found c (x ∷ xs) m i h l = elim (or_cases (eqb x (var_of m)) (is_listed xs (var_of m)) l) [
+has-found c (x ∷ xs) m i h l = elim (or_cases (eqb x (var_of m)) (stands xs (var_of m)) l) [
   | inl p ↦ here (elim (eqb_tells x (var_of m)) [ inl q ↦ q.1 | inr q ↦ absurd (false≢true (sym q.0 ∙ p)) ])
   | inr p ↦ later (lit_at c x) (has-found c xs m i h p)
 ]
@@ -137,7 +135,7 @@ enough-since u f id c parts vars i kept s e =
       (λ m h. elim (g.1 m h) [
         | inl q ↦ inl q
         | inr q ↦ inr (subst (λ z. has z m ≡ true) (sym e)
-            (has-found c vars m i h (subst (λ z. is_listed z (var_of m) ≡ true) (sym s.2) q)))
+            (has-found c vars m i h (subst (λ z. stands z (var_of m) ≡ true) (sym s.2) q)))
       ]),
     )
 
@@ -153,18 +151,18 @@ only-clash p (l ∷ []) m e h = elim (or_cases (lit_eq l m) false h) [
     pivot : p ≡ l
     pivot = cc
 
-listed-in-front : (xs ys : List ℕ) (k x : ℕ) → k ≤ length xs → is_listed (drop k xs) x ≡ true → is_listed (drop k (xs ++ ys)) x ≡ true
-listed-in-front xs ys k x h l = subst (λ z. is_listed z x ≡ true) (sym (drop-append-le k xs ys h)) (more (drop k xs) l)
+listed-in-front : (xs ys : List ℕ) (k x : ℕ) → k ≤ length xs → stands (drop k xs) x ≡ true → stands (drop k (xs ++ ys)) x ≡ true
+listed-in-front xs ys k x h l = subst (λ z. stands z x ≡ true) (sym (drop-append-le k xs ys h)) (more (drop k xs) l)
   where
-    more : (zs : List ℕ) → is_listed zs x ≡ true → is_listed (zs ++ ys) x ≡ true
+    more : (zs : List ℕ) → stands zs x ≡ true → stands (zs ++ ys) x ≡ true
     more [] l = absurd (false≢true l)
-    more (z ∷ zs) l = elim (or_cases (eqb z x) (is_listed zs x) l) [
-      | inl p ↦ or_left (eqb z x) (is_listed (zs ++ ys) x) p
-      | inr p ↦ or_right (eqb z x) (is_listed (zs ++ ys) x) (more zs p)
+    more (z ∷ zs) l = elim (or_cases (eqb z x) (stands zs x) l) [
+      | inl p ↦ or_left (eqb z x) (stands (zs ++ ys) x) p
+      | inr p ↦ or_right (eqb z x) (stands (zs ++ ys) x) (more zs p)
     ]
 
-listed-behind : (xs : List ℕ) (k y x : ℕ) → k ≤ length xs → eqb y x ≡ true → is_listed (drop k (xs ++ y ∷ [])) x ≡ true
-listed-behind xs k y x h q = subst (λ z. is_listed z x ≡ true) (sym (drop-append-le k xs (y ∷ []) h)) (listed-last (drop k xs) y x q)
+listed-behind : (xs : List ℕ) (k y x : ℕ) → k ≤ length xs → eqb y x ≡ true → stands (drop k (xs ++ y ∷ [])) x ≡ true
+listed-behind xs k y x h q = subst (λ z. stands z x ≡ true) (sym (drop-append-le k xs (y ∷ []) h)) (listed-last (drop k xs) y x q)
 
 -- a step of a chain keeps what is kept of each clause
 module _ (u v : Used) (f g : ℕ → Option Bool) (id : ℕ) (c : List Lit) (p : Lit) (i : IsClause c) (pivot : Ok p ≡ only_one (clashes f c))
@@ -204,30 +202,30 @@ module _ (u v : Used) (f g : ℕ → Option Bool) (id : ℕ) (c : List Lit) (p :
       by (Some s) r = ap Some (sign s m.positive (clash s r))
 
   kept-old : (j k : ℕ) (d : List Lit) → last_at u.last j ≡ Some k → IsKeptOf u f j d → (k ≤ length v.pivots)
-      × ((m : Lit) → has d m ≡ true → (g (var_of m) ≡ Some m.positive) ⊎ (is_listed (drop k v.pivots) (var_of m) ≡ true))
+      × ((m : Lit) → has d m ≡ true → (g (var_of m) ≡ Some m.positive) ⊎ (stands (drop k v.pivots) (var_of m) ≡ true))
   kept-old j k d e kept =
       let a = kept k e in
       (bound k a.0, (λ m h. by m (a.0) (a.1 m h) (eqb (var_of p) (var_of m)) refl))
     where
-      by : (m : Lit) → k ≤ length u.pivots → (f (var_of m) ≡ Some m.positive) ⊎ (is_listed (drop k u.pivots) (var_of m) ≡ true)
+      by : (m : Lit) → k ≤ length u.pivots → (f (var_of m) ≡ Some m.positive) ⊎ (stands (drop k u.pivots) (var_of m) ≡ true)
           → (b : Bool) → eqb (var_of p) (var_of m) ≡ b
-          → (g (var_of m) ≡ Some m.positive) ⊎ (is_listed (drop k v.pivots) (var_of m) ≡ true)
-      by m n (inl h) true q = inr (subst (λ z. is_listed (drop k z) (var_of m) ≡ true) (sym step.0)
+          → (g (var_of m) ≡ Some m.positive) ⊎ (stands (drop k v.pivots) (var_of m) ≡ true)
+      by m n (inl h) true q = inr (subst (λ z. stands (drop k z) (var_of m) ≡ true) (sym step.0)
           (listed-behind u.pivots k (var_of p) (var_of m) n q))
       by m n (inl h) false q = inl (sign-stays m h q)
-      by m n (inr h) b q = inr (subst (λ z. is_listed (drop k z) (var_of m) ≡ true) (sym step.0)
+      by m n (inr h) b q = inr (subst (λ z. stands (drop k z) (var_of m) ≡ true) (sym step.0)
           (listed-in-front u.pivots (var_of p ∷ []) k (var_of m) n h))
 
   kept-new : (k : ℕ) → k ≡ length u.pivots → (k ≤ length v.pivots)
-      × ((m : Lit) → has c m ≡ true → (g (var_of m) ≡ Some m.positive) ⊎ (is_listed (drop k v.pivots) (var_of m) ≡ true))
+      × ((m : Lit) → has c m ≡ true → (g (var_of m) ≡ Some m.positive) ⊎ (stands (drop k v.pivots) (var_of m) ≡ true))
   kept-new k e = (bound k within, (λ m h. by m h (eqb (var_of p) (var_of m)) refl))
     where
       within : k ≤ length u.pivots
       within = omega (arith, e)
 
       by : (m : Lit) → has c m ≡ true → (b : Bool) → eqb (var_of p) (var_of m) ≡ b
-          → (g (var_of m) ≡ Some m.positive) ⊎ (is_listed (drop k v.pivots) (var_of m) ≡ true)
-      by m h true q = inr (subst (λ z. is_listed (drop k z) (var_of m) ≡ true) (sym step.0)
+          → (g (var_of m) ≡ Some m.positive) ⊎ (stands (drop k v.pivots) (var_of m) ≡ true)
+      by m h true q = inr (subst (λ z. stands (drop k z) (var_of m) ≡ true) (sym step.0)
           (listed-behind u.pivots k (var_of p) (var_of m) within q))
       by m h false q = inl (sign-left (var_of m) q ∙ ap (λ o. over o (f (var_of m))) (sign-of-lit c m i h))
 
@@ -246,9 +244,11 @@ kept-none f clause u e j k h = absurd (none-some k (sym (ap (λ (w : Used). last
 -- one more use is noted in the map
 pub noted-put : (m n : BTreeMap ℕ ℕ) (id k : ℕ) → Updates nat_cmp m n id (Some k) → IsNoted m.entries n.entries id k
 noted-put m n id k up j a h = go (eqb id j) refl
-    (sym (up.0 j ∙ ap (λ b. cond b (Some k) (last_at m.entries j)) (is_eq-nat_cmp id j) ∙ cond-if (eqb id j) (Some k) (last_at m.entries j)) ∙ h)
+    (sym (up.0 j ∙ ap (λ b. cond b (Some k) (last_at m.entries j)) (is_eq-nat_cmp id j) ∙ cond-if (eqb id j) (Some k) (last_at m.entries j))
+    ∙ h)
   where
-    go : (b : Bool) → eqb id j ≡ b → (if b then Some k else last_at m.entries j) ≡ Some a → (last_at m.entries j ≡ Some a) ⊎ ((j ≡ id) × (a ≡ k))
+    go : (b : Bool) → eqb id j ≡ b → (if b then Some k else last_at m.entries j) ≡ Some a → (last_at m.entries j ≡ Some a)
+        ⊎ ((j ≡ id) × (a ≡ k))
     go true q g = inr (elim (eqb_tells id j) [ inl r ↦ sym r.1 | inr r ↦ absurd (false≢true (sym r.0 ∙ q)) ], sym (same_Some k a g))
     go false q g = inl g
 

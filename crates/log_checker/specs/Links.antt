@@ -33,7 +33,8 @@ AreLinked h heads links ks = ((b : ℕ) → b < length heads → IsLast h ks b (
 
 -- the same of the first clauses, as many as there are links
 abbrev pub AreIndexed : ℕ → List ℕ → List ℕ → List Known → Type 0
-AreIndexed factor heads links ks = (length links ≤ length ks) × AreLinked (bucket_of factor (length heads)) heads links (take (length links) ks)
+AreIndexed factor heads links ks = (length links ≤ length ks)
+    × AreLinked (bucket_of factor (length heads)) heads links (take (length links) ks)
 
 -- one more clause was noted
 abbrev pub Notes : ℕ → List ℕ → List ℕ → List ℕ → List ℕ → Known → Type 0

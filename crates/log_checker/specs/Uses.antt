@@ -7,7 +7,7 @@ use Rattle.clause_store.specs.declared.Lit.{Lit}
 use Rattle.clause_store.specs.Lits.{var_of, has}
 use Rattle.log_checker.specs.declared.step.Why.{Why}
 use Rattle.log_checker.specs.declared.step.Why.TheVariants.{NoPivot, TwoPivots}
-use Rattle.log_checker.specs.Signs.{with_sign, opposed, overlay, is_listed}
+use Rattle.log_checker.specs.Signs.{with_sign, opposed, overlay, stands}
 
 -- the variables of the pivots so far; and of some clauses, how many there were before the clause's last use
 pub record Used : Type 0 where
@@ -32,7 +32,7 @@ IsStep u v id x = (v.pivots ≡ u.pivots ++ x ∷ []) × IsNoted u.last v.last i
 -- since a clause's last use, its literals have their signs but for the pivots
 abbrev pub IsKeptOf : Used → (ℕ → Option Bool) → ℕ → List Lit → Type 0
 IsKeptOf u f id c = (k : ℕ) → last_at u.last id ≡ Some k → (k ≤ length u.pivots)
-    × ((m : Lit) → has c m ≡ true → (f (var_of m) ≡ Some m.positive) ⊎ (is_listed (drop k u.pivots) (var_of m) ≡ true))
+    × ((m : Lit) → has c m ≡ true → (f (var_of m) ≡ Some m.positive) ⊎ (stands (drop k u.pivots) (var_of m) ≡ true))
 
 -- some literals of a clause, where all others have their signs
 abbrev pub IsEnough : (ℕ → Option Bool) → List Lit → List Lit → Type 0

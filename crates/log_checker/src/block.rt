@@ -66,7 +66,8 @@ fn first_bad_of_parts<R: Threads + Sync, G: Gate>(
     ensures front { IfOk result.0 (λ bad. bad
         ≡ first_bad ground.entry.bits.now ground.entry.known.now number front.now) }
     ensures back { IfOk result.1 (λ bad. bad
-        ≡ first_bad ground.entry.bits.now ground.entry.known.now (number + length front.now) back.now) }
+        ≡ first_bad ground.entry.bits.now ground.entry.known.now
+        (number + length front.now) back.now) }
 {
     let Ground {
         alloc,

@@ -33,7 +33,8 @@ pub refuted-sound : (s : Clauses) (bits : List Lit) (budget : ℕ) (f : Found) (
     → IsFound s bits budget f → IsSoundLog log
 refuted-sound s bits budget f log e h = let k = subst (IsFound s bits budget) e h in (s.vars, clauses_of s.entries, bits, k.0.sound)
 
-pub optimal-found : (s : Clauses) (bits : List Lit) (budget : ℕ) (f : Found) (model : List Bool) (log short : List Line) → f ≡ Optimal model log
+pub optimal-found : (s : Clauses) (bits : List Lit) (budget : ℕ) (f : Found) (model : List Bool) (log short : List Line)
+    → f ≡ Optimal model log
     → short ≡ trimmed log → IsFound s bits budget f → IsFound s bits budget (Optimal model short)
 optimal-found s bits budget f model log short e q h =
     subst (λ l. IsFound s bits budget (Optimal model l)) (sym q)

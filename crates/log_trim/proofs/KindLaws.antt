@@ -148,7 +148,8 @@ module _ (vars : ℕ) (input : List (List Lit)) (bits : List Lit) where
   all-shorter P keep ls a = (a.0, all-anew P keep own_name (length input) ls (staying ls) a.1)
 
   last-shorter : (P : Line → Type 0) → ((f : ℕ → ℕ) (id : ℕ) (l : Line) → P l → P (renamed f id l))
-      → ((used : ℕ → Bool) (l : Line) → P l → stays used l ≡ true) → (ls : List Line) → LastIs P (head ∷ ls) → LastIs P (shorter (head ∷ ls))
+      → ((used : ℕ → Bool) (l : Line) → P l → stays used l ≡ true) → (ls : List Line) → LastIs P (head ∷ ls)
+      → LastIs P (shorter (head ∷ ls))
   last-shorter P keep stay [] h = h
   last-shorter P keep stay (l ∷ ls) h = last-cons P head (anew own_name (length input) (l ∷ ls) (staying (l ∷ ls)))
       (last-anew P keep stay own_name (length input) (l ∷ ls) h)
@@ -195,7 +196,8 @@ module _ (vars : ℕ) (input : List (List Lit)) (bits : List Lit) where
   refutation-shorter : (lines : List Line) → IsRefutation vars input bits lines → IsRefutation vars input bits (shorter lines)
   refutation-shorter [] c = absurd c.sound
   refutation-shorter (l ∷ ls) c =
-      subst (λ k. IsRefutation vars input bits (k ∷ ls) → IsRefutation vars input bits (shorter (k ∷ ls))) (sym c.sound.0) (refutation-head ls) c
+      subst (λ k. IsRefutation vars input bits (k ∷ ls) → IsRefutation vars input bits (shorter (k ∷ ls))) (sym c.sound.0)
+      (refutation-head ls) c
 
   pub certificate-trimmed : (values : List Bool) (lines : List Line) → IsCertificate vars input bits values lines
       → IsCertificate vars input bits values (trimmed lines)

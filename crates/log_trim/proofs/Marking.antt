@@ -88,7 +88,8 @@ marks-pass marks used l e = marks-same marks used (λ x. used x || (stays used l
     (λ x. or-nothing (used x) (stays used l && stands (chain_of l) x) (ap (λ b. b && stands (chain_of l) x) e))
 
 -- one that stays uses its chain
-pub marks-put : (marks : List Bool) (used : ℕ → Bool) (l : Line) → stays used l ≡ true → AreMarks marks (λ x. used x || stands (chain_of l) x)
+pub marks-put : (marks : List Bool) (used : ℕ → Bool) (l : Line) → stays used l ≡ true
+    → AreMarks marks (λ x. used x || stands (chain_of l) x)
     → AreMarks marks (λ x. used x || (stays used l && stands (chain_of l) x))
 marks-put marks used l e = marks-same marks (λ x. used x || stands (chain_of l) x) (λ x. used x || (stays used l && stands (chain_of l) x))
     (λ x. sym (ap (λ b. used x || (b && stands (chain_of l) x)) e))

@@ -25,7 +25,8 @@ stands-first id ids = or_left (eqb id id) (stands ids id) (elim (eqb_tells id id
 abbrev pub Names : List (List Lit) → List (List Lit) → (ℕ → ℕ) → (ℕ → Bool) → Type 0
 Names known new names used = (x : ℕ) (c : List Lit) → used x ≡ true → at_id known x ≡ Some c → at_id new (names x) ≡ Some c
 
-from-anew : (known new : List (List Lit)) (names : ℕ → ℕ) (a : List Lit) (ids : List ℕ) (stated : List Lit) → Names known new names (stands ids)
+from-anew : (known new : List (List Lit)) (names : ℕ → ℕ) (a : List Lit) (ids : List ℕ) (stated : List Lit)
+    → Names known new names (stands ids)
     → DerivesFrom known a ids stated → DerivesFrom new a (map names ids) stated
 from-anew known new names a [] stated n d = d
 from-anew known new names a (id ∷ ids) stated n d = (
@@ -56,7 +57,8 @@ behind known new names l ls n x c u e = n x c (or_left (used_by ls x) (stays (us
 at-line : (known new : List (List Lit)) (names : ℕ → ℕ) (l : Line) (ls : List Line) → Names known new names (used_by (l ∷ ls))
     → stays (used_by ls) l ≡ true → Names known new names (stands (chain_of l))
 at-line known new names l ls n s x c u e =
-    n x c (or_right (used_by ls x) (stays (used_by ls) l && stands (chain_of l) x) (and_from (stays (used_by ls) l) (stands (chain_of l) x) s u)) e
+    n x c (or_right (used_by ls x) (stays (used_by ls) l && stands (chain_of l) x)
+    (and_from (stays (used_by ls) l) (stands (chain_of l) x) s u)) e
 
 -- the last of the known clauses, and those before it
 get-last : (known : List (List Lit)) (c : List Lit) → slice_get (known ++ c ∷ []) (length known) ≡ Some c
@@ -119,7 +121,8 @@ settled bits ls f known new names id n k (Some j) l r q e s m h =
 
 -- a learnt clause stays, or is left out
 learnt : (bits : List Lit) (ls : List Line) (known new : List (List Lit)) (names : ℕ → ℕ) (id n k : ℕ) (c : List Lit) (chain : List ℕ)
-    → Rest bits ls → EachLine (LineHolds bits) bits known k (Learnt id c chain ∷ ls) → Names known new names (used_by (Learnt id c chain ∷ ls))
+    → Rest bits ls → EachLine (LineHolds bits) bits known k (Learnt id c chain ∷ ls)
+    → Names known new names (used_by (Learnt id c chain ∷ ls))
     → length new ≡ n → EachLine (LineHolds bits) bits new k (anew names n (Learnt id c chain ∷ ls) (staying (Learnt id c chain ∷ ls)))
 learnt bits ls known new names id n k c chain r h m s = by (used_by ls id) refl
   where

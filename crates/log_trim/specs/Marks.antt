@@ -1,11 +1,8 @@
 -- Marks of clauses by their ids, and names of them.
-use Rattle.std.specs.Prelude.{◌≡◌, ℕ, ◌<◌, Bool, List, Option, Some, None, length, slice_get, unwrap_or}
+use Rattle.std.specs.Prelude.{ℕ, ◌<◌, List, Option, Some, None, slice_get, unwrap_or}
 use Rattle.proof_log.specs.declared.line.Line.{Line}
 use Rattle.log_trim.specs.Trimmed.{id_of}
-
--- each clause with a mark is marked exactly where it is used
-abbrev pub AreMarks : List Bool → (ℕ → Bool) → Type 0
-AreMarks marks used = (x : ℕ) → x < length marks → slice_get marks x ≡ Some (used x)
+pub use Rattle.proof_log.specs.Marks.{AreMarks}
 
 -- there is a mark for the clause that the line makes known
 abbrev pub IsBelow : ℕ → Option ℕ → Type 0

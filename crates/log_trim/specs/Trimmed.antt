@@ -4,11 +4,7 @@ use Rattle.clause_store.specs.declared.Lit.{Lit}
 use Rattle.proof_log.specs.declared.line.Line.{Line}
 use Rattle.proof_log.specs.declared.line.Line.TheVariants.{Header, Learnt, Zero, One, Unsat, Spent}
 use Rattle.proof_log.specs.Logs.{IsSound}
-
--- a number stands in a list
-abbrev pub stands : List ℕ → ℕ → Bool
-stands [] x = false
-stands (y ∷ ys) x = (y == x) || stands ys x
+pub use Rattle.proof_log.specs.Marks.{stands}
 
 -- the ids that a line names
 abbrev pub chain_of : Line → List ℕ

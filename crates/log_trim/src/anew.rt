@@ -78,7 +78,8 @@ pub fn line_anew(alloc: Global, names: &[u64], id: u64, line: &Line) -> Result<L
 fn note(names: &mut Vec<u64>, id: Option<u64>, name: u64)
     requires { IsBelow (length names.old.items) id }
     ensures length { length names.new.items ≡ length names.old.items }
-    ensures named { (x : ℕ) → name_in names.new.items x ≡ with_name (name_in names.old.items) id name x }
+    ensures named { (x : ℕ) → name_in names.new.items x
+        ≡ with_name (name_in names.old.items) id name x }
 {
     if let Some(id) = id {
         names[id as usize] = name;
@@ -108,7 +109,8 @@ pub fn push_anew(
     requires rooms { AllLines (HasRoom (length names.old.items)) lines.now }
     requires count { before + length lines.now < 2 ^ 64 }
     requires marked { length staying.now ≡ length lines.now }
-    ensures { OnOk result (log.new ≡ log.old ++ anew (name_in names.old.items) before lines.now staying.now) }
+    ensures { OnOk result (log.new ≡ log.old
+        ++ anew (name_in names.old.items) before lines.now staying.now) }
 {
     let mut count = before;
     for (place, line) in lines.iter().enumerate() {

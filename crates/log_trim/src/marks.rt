@@ -48,9 +48,11 @@ fn chain_of(line: &Line) -> &[u64]
 fn mark_line(marks: &mut Vec<bool>, line: &Line) -> bool
     requires { HasRoom (length marks.old.items) line.now }
     ensures length { length marks.new.items ≡ length marks.old.items }
-    ensures stays { (used : ℕ → Bool) → AreMarks marks.old.items used → result ≡ stays used line.now }
+    ensures stays { (used : ℕ → Bool) → AreMarks marks.old.items used
+        → result ≡ stays used line.now }
     ensures marked { (used : ℕ → Bool) → AreMarks marks.old.items used
-        → AreMarks marks.new.items (λ x. used x || (stays used line.now && stands (chain_of line.now) x)) }
+        → AreMarks marks.new.items (λ x. used x
+        || (stays used line.now && stands (chain_of line.now) x)) }
 {
     if stays(marks.as_slice(), line) {
         mark_all(marks, chain_of(line));

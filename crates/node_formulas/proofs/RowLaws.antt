@@ -51,10 +51,12 @@ module _ (path : Text → Text → Statement) (condition : Text → Condition �
       (λ (name : Text). there_said t name (plain_said t (kept_rule problem (children_of t name) (origins_of t name) name)))
       (λ name. ap (there_said t name) (kept-plain path t problem (children_of t name) (origins_of t name) name)) (table_names t))
 
-  providers-are : (virtual : Text) → term_formula path condition t (of_provider (names_for t) (λ p. known_rule (provider_rule problem p)) virtual)
+  providers-are : (virtual : Text) → term_formula path condition t
+      (of_provider (names_for t) (λ p. known_rule (provider_rule problem p)) virtual)
       ≡ providers_said t (λ p. plain_said t (provider_rule problem p)) virtual
   providers-are virtual =
-      each-said (term_said path condition t) (λ (p : Text). if_so (known_rule (fact (provides_as virtual p))) (known_rule (provider_rule problem (virtual, p)))) (names_for t virtual)
+      each-said (term_said path condition t) (λ (p : Text). if_so (known_rule (fact (provides_as virtual p)))
+      (known_rule (provider_rule problem (virtual, p)))) (names_for t virtual)
       ∙ ap all_statements
       (map-same (λ (p : Text). term_formula path condition t
       (if_so (known_rule (fact (provides_as virtual p))) (known_rule (provider_rule problem (virtual, p)))))

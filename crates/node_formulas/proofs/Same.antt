@@ -25,7 +25,8 @@ module _ (t : Table) (name : Text) (k : Node) where
   abbrev prefix_said : Statement
   prefix_said = node_said t name (has_prefix (λ own. option_eq bytes_eq own k.prefix))
 
-  pub same-steps : (own version : Text) (variants : Variants) (os target : Text) (software system : Statement) → own ≡ k.name → version ≡ k.version
+  pub same-steps : (own version : Text) (variants : Variants) (os target : Text) (software system : Statement) → own ≡ k.name
+      → version ≡ k.version
       → variants ≡ k.variants → os ≡ k.os → target ≡ k.target → software ≡ plain_said t (software_rule name own version variants)
       → system ≡ both_statements (both_statements software compiler_said) (os_said os)
       → both_statements (both_statements system (target_said target)) prefix_said ≡ plain_said t (same_rule name k)

@@ -2,15 +2,14 @@
 use Rattle.std.specs.Prelude.{List}
 use Rattle.std.specs.Str.{bytes_eq}
 use Rattle.clause_formulas.specs.Rules.{Proposition, fact, if_so}
-use Rattle.graph_core.specs.Graphs.{Text}
+use Rattle.graph_core.specs.Graphs.{Text, no_kinds}
 use Rattle.reuse_db.specs.declared.record.Dependency.{Dependency}
-use Rattle.graph_rules.specs.Kept.{installed_node}
+use Rattle.reuse_db.specs.Installed.{installed_node}
 use Rattle.problem.specs.Problems.{Problem, record_at}
 use Rattle.problem.specs.Records.{kept_dependencies}
 use Rattle.reuse_db.specs.declared.record.Record.{Record}
 use Rattle.graph_formulas.specs.Facts.{GraphWord, Variants, node_has, has_version, has_variants, has_edge}
 use Rattle.graph_formulas.specs.Lists.{◌and◌, settled_test, one_keeps, each_keeps}
-use Rattle.graph_formulas.specs.Edges.{no_kinds}
 use Rattle.graph_formulas.specs.Kept.{joined_rule, same_rule, is_child_name}
 
 -- the node of the name has this name, version and variants

@@ -4,7 +4,7 @@ ghost use Rattle.std.specs.Option.{option_eq};
 ghost use Rattle.std.specs.Str.{bytes_eq};
 ghost use Rattle.clause_formulas.specs.Statements.{both_statements};
 ghost use Rattle.problem.specs.Problems.{same_compiler};
-ghost use Rattle.graph_rules.specs.Kept.{installed_node};
+ghost use Rattle.reuse_db.specs.Installed.{installed_node};
 ghost use Rattle.graph_formulas.specs.Facts.{has_version, has_compiler, has_os, has_target, has_prefix};
 ghost use Rattle.graph_formulas.specs.Kept.{same_rule};
 ghost use Rattle.word_formulas.specs.Builders.{node_said, plain_said};

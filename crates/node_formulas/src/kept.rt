@@ -5,7 +5,7 @@ ghost use Rattle.graph_core.specs.declared.node.Origin.TheVariants.{External, In
 ghost use Rattle.problem.specs.Records.{kept_dependencies};
 ghost use Rattle.graph_formulas.specs.Facts.{has_edge, has_prefix};
 ghost use Rattle.graph_formulas.specs.Lists.{each_keeps};
-ghost use Rattle.graph_formulas.specs.Edges.{no_kinds};
+ghost use Rattle.graph_core.specs.Graphs.{no_kinds};
 ghost use Rattle.graph_formulas.specs.Kept.{origin_rule};
 ghost use Rattle.node_formulas.specs.Rows.{only_if};
 ghost use Rattle.graph_formulas.specs.Kept.{joined_rule};

@@ -3,7 +3,7 @@ ghost use Rattle.std.specs.Prelude.{◌≡◌, true, IfOk};
 ghost use Rattle.clause_formulas.specs.Rules.{fact, isnt, both_of, if_so};
 ghost use Rattle.graph_formulas.specs.Facts.{has_edge};
 ghost use Rattle.graph_formulas.specs.Lists.{settled_test};
-ghost use Rattle.graph_formulas.specs.Edges.{no_kinds};
+ghost use Rattle.graph_core.specs.Graphs.{no_kinds};
 ghost use Rattle.graph_formulas.specs.Kept.{kinds_rule};
 ghost use Rattle.word_formulas.specs.Builders.{plain_said};
 

@@ -2,7 +2,7 @@
 use Rattle.std.specs.Prelude.{◌≡◌, ℕ, ◌+◌, ◌^◌, ◌<◌, ◌≤◌, Bool, true, false, ◌&&◌, nat_lt, nat_le, Option, Some, None, List, [], length, take, slice_range}
 use Rattle.std.specs.List.{find}
 use Rattle.clause_store.specs.declared.Lit.{Lit}
-use Rattle.clause_store.specs.Clauses.{Clauses, clauses_of, Meets, AllTrue}
+use Rattle.clause_store.specs.Clauses.{Clauses, clauses_of, AllTrue}
 use Rattle.proof_log.specs.Lines.{IsOpen, learnt_in, AllLines}
 use Rattle.proof_log.specs.Certificates.{bits_at, IsBelow, HasValue, IsCertificate, IsRefutation, AreOver, IsSpentLog}
 use Rattle.clause_solver.specs.Models.{values_in}
@@ -10,10 +10,7 @@ use Rattle.clause_solver.specs.Solvers.{SolverValue}
 use Rattle.optimum_search.specs.declared.found.Found.{Found}
 use Rattle.optimum_search.specs.declared.number.Number.{Number}
 use Rattle.optimum_search.specs.declared.found.Found.TheVariants.{Optimal, Refuted, Spent}
-
--- an assignment meets all clauses, whatever their labels
-abbrev pub MeetsAll : (ℕ → Bool) → Clauses → Type 0
-MeetsAll v s = Meets (λ d. true) v s.entries
+pub use Rattle.proof_log.specs.Certificates.{MeetsAll}
 
 -- a model of all clauses with a certificate of its bits, a refutation, or a log that spent the budget;
 -- what is learnt is over the variables of the clauses, so that the log may be written, and within the budget but for the last

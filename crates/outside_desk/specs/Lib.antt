@@ -7,3 +7,4 @@ pub mod MemorySink
 pub mod RealDesk
 pub mod RealFiles
 pub mod RealSink
+pub mod Supposed

@@ -3,7 +3,7 @@ ghost use Rattle.std.specs.Prelude.{◌≡◌, ◌≤◌, ◌<◌, ◌^◌, ℕ,
 ghost use Rattle.std.specs.FinMap.{get};
 ghost use Rattle.std.specs.String.{string_bytes};
 ghost use Rattle.outside_desk.specs.Causes.{Counts};
-ghost use Rattle.outside_desk.specs.Files.{Files, ReadsAt, with_file, MayHold};
+ghost use Rattle.outside_desk.specs.Files.{Files, ReadsAt, StillTells, with_file, MayHold};
 ghost use Rattle.outside_desk.specs.Listing.{Lists, AreInOrder};
 
 use crate::DeskFault;
@@ -18,8 +18,11 @@ use std::alloc::Global;
 ///
 /// Calls come in any order, also after a fault: no fault closes a desk. A call that does not answer `Failed` leaves
 /// both counts. A count never falls, is below 2^64, and stays at 2^64 - 1 once it stands there.
+///
+/// What a call gave is so in the files that the desk tells behind it. A desk that can't know its files, as that of a machine, is
+/// supposed to have some, and ceases to tell them where an answer is not as these have it; one in memory never ceases.
 pub trait Desk {
-    /// The files, where the desk tells them.
+    /// The files, where the desk tells them. No reading and no listing changes what it tells, but it may cease to.
     ghost files: { Self → Option Files };
 
     /// How often a reading or a listing failed.
@@ -40,9 +43,9 @@ pub trait Desk {
         out: &mut [u8],
     ) -> Result<usize, DeskFault>
         ensures bound { IfOk result (λ n. n ≤ length out.new) }
-        ensures bytes { IfSome (files self.old)
+        ensures bytes { IfSome (files self.new)
             (λ m. ReadsAt (get m path.now) from out.new result) }
-        ensures same { files self.new ≡ files self.old }
+        ensures same { StillTells (files self.old) (files self.new) }
         ensures cause { Counts (faults self.old) (faults self.new)
             (IsErrOf result DeskFault.Failed) }
         ensures steady { ¬ IsErrOf result DeskFault.Failed → faults self.new ≡ faults self.old }
@@ -53,9 +56,9 @@ pub trait Desk {
     ///
     /// `Missing` where there is none.
     fn list(&mut self, alloc: Global, path: &str) -> Result<Vec<String>, DeskFault>
-        ensures names { IfSome (files self.old) (λ m. Lists m path.now result) }
+        ensures names { IfSome (files self.new) (λ m. Lists m path.now result) }
         ensures order { IfOk result (λ names. AreInOrder (map string_bytes names.items)) }
-        ensures same { files self.new ≡ files self.old }
+        ensures same { StillTells (files self.old) (files self.new) }
         ensures cause { Counts (faults self.old) (faults self.new)
             (IsErrOf result DeskFault.Failed) }
         ensures steady { ¬ IsErrOf result DeskFault.Failed → faults self.new ≡ faults self.old }

@@ -2,7 +2,7 @@
 ghost use Rattle.std.specs.Prelude.{◌≡◌, ◌≤◌, IfOk, IfSome, IsErrOf, length};
 ghost use Rattle.std.specs.FinMap.{get};
 ghost use Rattle.outside_desk.specs.Causes.{Counts};
-ghost use Rattle.outside_desk.specs.Files.{ReadsWhole};
+ghost use Rattle.outside_desk.specs.Files.{ReadsWhole, StillTells};
 
 use crate::{Desk, ReadFault};
 use std::alloc::Global;
@@ -20,9 +20,9 @@ pub fn read_whole<D: Desk>(
     path: &str,
     limit: u64,
 ) -> Result<Vec<u8>, ReadFault>
-    ensures bytes { IfSome (D.files desk.old) (λ m. ReadsWhole (get m path.now) limit result) }
+    ensures bytes { IfSome (D.files desk.new) (λ m. ReadsWhole (get m path.now) limit result) }
     ensures limit { IfOk result (λ v. length v.items ≤ limit) }
-    ensures same { D.files desk.new ≡ D.files desk.old }
+    ensures same { StillTells (D.files desk.old) (D.files desk.new) }
     ensures cause { Counts (D.faults desk.old) (D.faults desk.new)
         (IsErrOf result ReadFault.Failed) }
     ensures steady { ¬ IsErrOf result ReadFault.Failed → D.faults desk.new ≡ D.faults desk.old }

@@ -8,7 +8,7 @@ use Rattle.reachability.specs.Paths.{reaches}
 use Rattle.graph_core.specs.Graphs.{Text}
 use Rattle.spec_grammar.specs.declared.part.Spec.{Spec}
 use Rattle.problem.specs.Closure.{is_known, next_names}
-use Rattle.problem.specs.Problems.{Problem, alone, apart, package_entry_of, record_at}
+use Rattle.problem.specs.Problems.{Problem, alone, each_alone, package_entry_of, record_at}
 use Rattle.problem.proofs.AssembledLaws.{root_apart}
 use Rattle.possible_closure.specs.Closures.{brings, closure_of, is_needed, known_names}
 
@@ -45,7 +45,8 @@ front_passes : {X : Type 0} (p : X → Bool) (name : Option X) (names : List X) 
 front_passes p None names is = absurd (false≢true is)
 front_passes p (Some x) names is = pass_or (p x) (list_any p names) (or_none (p x) is)
 
-later_passes : {X : Type 0} (p : X → Bool) (name : Option X) (names : List X) → list_any p names ≡ true → list_any p (cons_option name names) ≡ true
+later_passes : {X : Type 0} (p : X → Bool) (name : Option X) (names : List X) → list_any p names ≡ true
+    → list_any p (cons_option name names) ≡ true
 later_passes p None names is = is
 later_passes p (Some x) names is = pass_later (p x) (list_any p names) is
 
@@ -77,10 +78,11 @@ of_root : (problem : Problem) (place : ℕ) (root : Spec) → slice_get problem.
 unfolding closure_of
 of_root problem place root is =
     rw (same_known problem root)
-    (fewer (is_needed (alone problem root)) (is_needed problem) (known_names problem) (λ name any. needed_alone problem place root name is any))
+    (fewer (is_needed (alone problem root)) (is_needed problem) (known_names problem)
+    (λ name any. needed_alone problem place root name is any))
 
 -- the problem of one root has no more names than that of all
-pub no_more : (problem : Problem) (place : ℕ) (one : Problem) → slice_get (apart problem) place ≡ Some one
+pub no_more : (problem : Problem) (place : ℕ) (one : Problem) → slice_get (each_alone problem) place ≡ Some one
     → length (closure_of one) ≤ length (closure_of problem)
 no_more problem place one is =
     let given = root_apart problem place one is in rw given.2 (of_root problem place given.0 given.1)

@@ -16,7 +16,7 @@ use Rattle.condition_rules.specs.OfConditions.Recipe.{Recipe}
 use Rattle.condition_rules.specs.OfVirtuals.Virtuals.{AreInOrder}
 use Rattle.reuse_db.specs.declared.record.Record.{Record}
 use Rattle.problem.specs.Assembled.{is_assembled}
-use Rattle.problem.specs.Problems.{Problem, alone, apart, problem_of}
+use Rattle.problem.specs.Problems.{Problem, alone, each_alone, problem_of}
 
 -- parts that are put together meet the test
 pub assembled : (recipes : List Recipe) (settings : Settings) (database : List Record) (roots : List Spec) → AreInOrder recipes
@@ -56,7 +56,7 @@ alone_assembled problem place root within is right =
     (one_passes (λ spec. is_some spec.top.name) problem.roots place root (found_at problem.roots place root within is) parts.1)
 
 pub apart_at : (problem : Problem) (place : ℕ) (root : Spec) → place < length problem.roots → root ≡ get_or problem.roots place root
-    → slice_get (apart problem) place ≡ Some (alone problem root)
+    → slice_get (each_alone problem) place ≡ Some (alone problem root)
 apart_at problem place root within is =
     slice_get-map (alone problem) problem.roots place
     ∙ ap (option_map (alone problem)) (found_at problem.roots place root within is)
@@ -68,6 +68,6 @@ root_of f [] place one is = absurd cc
 root_of f (r ∷ roots) zero one is = (r, refl, sym (same_held is))
 root_of f (r ∷ roots) (suc place) one is = root_of f roots place one is
 
-pub root_apart : (problem : Problem) (place : ℕ) (one : Problem) → slice_get (apart problem) place ≡ Some one
+pub root_apart : (problem : Problem) (place : ℕ) (one : Problem) → slice_get (each_alone problem) place ≡ Some one
     → (root : Spec) × (slice_get problem.roots place ≡ Some root) × (one ≡ alone problem root)
 root_apart problem place one is = root_of (alone problem) problem.roots place one is

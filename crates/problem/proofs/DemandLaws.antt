@@ -97,7 +97,8 @@ module _ (problem : Problem) (most : ℕ) (list : List Demand) (asked : AreDeman
   pub of_root : (id : ℕ) → id < length problem.roots → slice_get list id ≡ slice_get (demands problem) id
   of_root id within = rw (is_list, are_demands) (root_of_few (length problem.roots) most id rest few within)
 
-  pub of_later : (id : ℕ) → length problem.roots ≤ id → slice_get (drop (most - length problem.roots) list) id ≡ slice_get (demands problem) id
+  pub of_later : (id : ℕ) → length problem.roots ≤ id
+      → slice_get (drop (most - length problem.roots) list) id ≡ slice_get (demands problem) id
   of_later id behind =
       get_dropped list (most - length problem.roots) id
       ∙ rw (is_list, are_demands) (later_of_few (length problem.roots) most id rest few behind)
@@ -105,6 +106,7 @@ module _ (problem : Problem) (most : ℕ) (list : List Demand) (asked : AreDeman
   -- so many more roots are in the list
   pub more_roots : most - length problem.roots ≤ length list
   more_roots =
-      rw (is_list) (let a : length (root_demands most ++ rest) ≡ length (root_demands most) + length rest = length-append (root_demands most) rest in
+      rw (is_list) (let a : length (root_demands most ++ rest) ≡ length (root_demands most) + length rest =
+      length-append (root_demands most) rest in
       let c : length (root_demands most) ≡ most = length-map-range_with_len Root 0 most in
       omega (arith, a, c))

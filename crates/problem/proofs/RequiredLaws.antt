@@ -53,7 +53,8 @@ find_next : (packages : List PackageEntry) (i : ℕ) (x : PackageEntry) (name : 
     → find (λ entry. bytes_eq entry.name name) (take (i + 1) packages)
     ≡ option_or (find (λ entry. bytes_eq entry.name name) (take i packages)) (cond (bytes_eq x.name name) (Some x) None)
 find_next packages i x name lt is =
-    let split : take (i + 1) packages ≡ take i packages ++ x ∷ [] = take_more packages i x lt ∙ ap (λ y. take i packages ++ y ∷ []) (sym is) in
+    let split : take (i + 1) packages ≡ take i packages ++ x ∷ [] = take_more packages i x lt
+    ∙ ap (λ y. take i packages ++ y ∷ []) (sym is) in
     ap (find (λ entry. bytes_eq entry.name name)) split ∙ find-append (λ entry. bytes_eq entry.name name) (take i packages) (x ∷ [])
 
 -- rows that were put at a name that had none
@@ -102,6 +103,7 @@ named_more packages i x named more false lt is before fresh grown = record {
       ap (λ l. find_key byte_cmp name_of l name) grown
       ∙ left_there (find (λ entry. bytes_eq entry.name name) (take i packages)) x (bytes_eq x.name name)
       (find_key byte_cmp name_of named name) (before.there name)
-      (λ same none. false≢true (fresh.1 (subst (λ n. find_key byte_cmp name_of named n ≡ None) (sym ((bytes_decides x.name name).0 same)) none)))
+      (λ same none. false≢true
+      (fresh.1 (subst (λ n. find_key byte_cmp name_of named n ≡ None) (sym ((bytes_decides x.name name).0 same)) none)))
       ∙ ap (option_map named_rows) (sym (find_next packages i x name lt is));
 }

@@ -8,11 +8,7 @@ use Rattle.condition_rules.specs.OfGraphCore.Kinds.{Kinds}
 use Rattle.graph_core.specs.declared.node.Origin.{Origin}
 use Rattle.condition_rules.specs.OfGraphCore.OriginVariants.{Built, External, Installed}
 use Rattle.condition_rules.specs.Words.{implies}
-pub use Rattle.graph_core.specs.Graphs.{has_kind}
-
--- it is that of the nodes to build
-abbrev pub builds : Origin → Bool
-builds origin = elim origin [ Built ↦ true | External place ↦ false | Installed hash ↦ false ]
+pub use Rattle.graph_core.specs.Graphs.{has_kind, builds, is_built}
 
 abbrev pub same_origin : Origin → Origin → Bool
 same_origin Built Built = true
@@ -24,10 +20,6 @@ same_origin (External place) (Installed hash) = false
 same_origin (Installed hash) Built = false
 same_origin (Installed hash) (External place) = false
 same_origin (Installed hash) (Installed other) = bytes_eq hash other
-
--- the node is to be built
-abbrev pub is_built : Node → Bool
-is_built node = builds node.origin
 
 -- the node is the installed one of this hash
 abbrev pub is_installed : Text → Node → Bool

@@ -124,5 +124,5 @@ abbrev pub alone : Problem → Spec → Problem
 alone problem root = record problem { roots = root ∷ [] }
 
 -- the problem of each requested spec by itself
-abbrev pub apart : Problem → List Problem
-apart problem = map (alone problem) problem.roots
+abbrev pub each_alone : Problem → List Problem
+each_alone problem = map (alone problem) problem.roots

@@ -26,9 +26,10 @@ pub use assembling::assemble;
 pub use demand::Demand;
 pub use explored::Explored;
 pub use fault::ProblemFault;
+pub use graph_core::is_built;
 pub use lookup::{
-    applies, asked_by, conflicts_at, covers, depends_at, entry_of, is_buildable, is_built,
-    names_of, provides_at, recipe_at, requirements_at, same_compiler, variants_at, versions_at,
+    applies, asked_by, conflicts_at, covers, depends_at, entry_of, is_buildable, names_of,
+    provides_at, recipe_at, requirements_at, same_compiler, variants_at, versions_at,
 };
 pub use problem::Problem;
 pub use required::required_at;

@@ -1,14 +1,14 @@
 //! Looking up in a problem.
 ghost use Rattle.std.specs.Prelude.{◌≡◌, IfOk, map};
 ghost use Rattle.std.specs.Option.{option_copied};
-ghost use Rattle.problem.specs.Nodes.{is_built, covers};
+ghost use Rattle.problem.specs.Nodes.{covers};
 ghost use Rattle.problem.specs.Problems.{recipe_at, versions_at, variants_at, depends_at};
 ghost use Rattle.problem.specs.Problems.{conflicts_at, requirements_at, package_entry_of, is_buildable_in};
 ghost use Rattle.problem.specs.Problems.{same_compiler, applies, asked_by, provides_at};
 
 use crate::{Explored, Problem};
 use condition_rules::{Paths, all_hold, asked_node};
-use graph_core::{Compiler, Kinds, Node, Origin};
+use graph_core::{Compiler, Kinds, Node};
 use plain_data::{Duplicate, Word};
 use recipe_data::{
     Condition, ConflictRow, DependRow, ProvideRow, Recipe, RequireRow, VariantRow, VersionRow,
@@ -113,13 +113,6 @@ pub fn same_compiler(a: &Compiler, b: &Compiler) -> bool
     ensures { result ≡ same_compiler a.now b.now }
 {
     a.name.as_str() == b.name.as_str() && a.version.text() == b.version.text()
-}
-
-/// Whether a node is to be built.
-pub fn is_built(node: &Node) -> bool
-    ensures { result ≡ is_built node.now }
-{
-    matches!(node.origin, Origin::Built)
 }
 
 /// Whether a directive's condition holds at a node.

@@ -4,7 +4,7 @@ ghost use Rattle.std.specs.Option.{option_copied};
 ghost use Rattle.condition_rules.specs.OfVirtuals.Virtuals.{AreInOrder, AreProviders};
 ghost use Rattle.problem.specs.Assembled.{is_assembled};
 ghost use Rattle.problem.specs.Demands.{demands};
-ghost use Rattle.problem.specs.Problems.{apart, world_of};
+ghost use Rattle.problem.specs.Problems.{each_alone, world_of};
 ghost use Rattle.problem.specs.Required.{AreNamedRows};
 
 use crate::Demand;
@@ -140,7 +140,7 @@ impl Problem {
     #[tactic(auto, using(crate::proofs::AssembledLaws::alone_assembled, crate::proofs::AssembledLaws::apart_at))]
     pub fn alone(&self, alloc: Global, place: usize) -> Result<Problem, AllocError>
         requires { place < length self.now.roots }
-        ensures { IfOk result (λ one. slice_get (apart self.now) place ≡ Some one) }
+        ensures { IfOk result (λ one. slice_get (each_alone self.now) place ≡ Some one) }
     {
         let mut roots = List::new(alloc);
         roots.push(self.roots.as_slice()[place].duplicate(alloc)?)?;

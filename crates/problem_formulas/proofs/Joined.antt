@@ -150,7 +150,8 @@ module _ (problem : Problem) (t : Table) where
       ≡ old ++ targets_at problem t name
   package-targets name old = eight old _ _ _ _ _ _ _ _
       ∙ ap (λ zs. old ++ ((flat_map (λ row. whens row.when) (variants_at problem name)
-      ++ (flat_map (λ row. whens row.when) (depends_at problem name) ++ (flat_map (λ row. whens row.when) (conflicts_at problem name) ++ zs)))
+      ++ (flat_map (λ row. whens row.when) (depends_at problem name)
+      ++ (flat_map (λ row. whens row.when) (conflicts_at problem name) ++ zs)))
       ++ (flat_map (λ row. specs row.spec) (conflicts_at problem name)
       ++ (flat_map (λ row. flat_map specs row.specs) (requirements_at problem name)
       ++ flat_map (λ row. flat_map specs row.specs) (required_at problem name)))))

@@ -58,7 +58,8 @@ module _ (path : Text → Text → Statement) (condition : Text → Condition �
       (variants-agree path condition t problem (variants_of t name) name)) (table_names t))
 
   extra-same : all_statements
-      (map (λ name. term_formula path condition t (where_built name (extra_edges_rule problem (names_for t) (virtuals_on t name) (children_of t name) name)))
+      (map (λ name. term_formula path condition t
+      (where_built name (extra_edges_rule problem (names_for t) (virtuals_on t name) (children_of t name) name)))
       (table_names t)) ≡ extra_row problem t condition
   extra-same = ap all_statements
       (map-agree _ _ (λ name. ap (λ s. implication_of (node_said t name (has_origin builds)) s)

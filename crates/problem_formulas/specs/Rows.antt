@@ -38,7 +38,8 @@ module _ (problem : Problem) (t : Table) (condition : Text → Condition → Sta
 
   abbrev pub extra_row : Statement
   extra_row = all_statements
-      (map (λ name. plain_term t condition (where_built name (extra_edges_rule problem (names_for t) (virtuals_on t name) (children_of t name) name)))
+      (map (λ name. plain_term t condition (where_built name
+      (extra_edges_rule problem (names_for t) (virtuals_on t name) (children_of t name) name)))
       (table_names t))
 
   abbrev pub first_rows : List Statement

@@ -4,9 +4,13 @@ use Rattle.clause_store.specs.declared.Lit.{Lit}
 use Rattle.clause_store.specs.Lits.{lit_true, AllBelow}
 use Rattle.proof_log.specs.declared.line.Line.{Line}
 use Rattle.proof_log.specs.declared.line.Line.TheVariants.{Zero, One, Unsat, Spent, End}
-use Rattle.clause_store.specs.Clauses.{AllTrue}
+use Rattle.clause_store.specs.Clauses.{AllTrue, Clauses, Meets}
 use Rattle.proof_log.specs.Lines.{SettlesNone, learnt_in, AllLines, LastIs, OfLearnt}
 use Rattle.proof_log.specs.Logs.{IsSound, AreDistinct, AreUseful}
+
+-- an assignment meets all clauses, whatever their labels
+abbrev pub MeetsAll : (ℕ → Bool) → Clauses → Type 0
+MeetsAll v s = Meets (λ d. true) v s.entries
 
 -- the bits of an assignment
 abbrev pub bits_at : (ℕ → Bool) → List Lit → List Bool

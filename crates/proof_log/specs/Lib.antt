@@ -8,6 +8,7 @@ pub mod Logs
 pub mod Certificates
 pub mod Texts
 pub mod Readings
+pub mod Marks
 pub mod Worked
 -- Inside: the numbers of a line.
 pub mod Fields

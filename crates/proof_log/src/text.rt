@@ -145,7 +145,7 @@ fn text_of(alloc: Global, line: &Line) -> Result<Vec<u8>, AllocError>
     let mut text = Vec::new(alloc);
     text.push(letter(line))?;
     let fields = fields_of(alloc, line)?;
-    write_fields(alloc, fields.as_slice(), &mut text)?;
+    write_fields(fields.as_slice(), &mut text)?;
     Ok(text)
 }
 

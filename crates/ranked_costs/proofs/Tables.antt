@@ -100,7 +100,8 @@ module _ (problem : Problem) (limits : IsWithin problem) (names : List Text) (ri
   is-provided virtual h =
       let recipe = any-in (λ (recipe : Recipe). list_any (λ row. bytes_eq row.name virtual) recipe.provides) problem.recipes h in
       let row = any-in (λ (row : ProvideRow). bytes_eq row.name virtual) recipe.0.provides recipe.2 in
-      In-contains provided virtual (In-flat_map (λ (r : Recipe). map (λ (x : ProvideRow). x.name) r.provides) problem.recipes recipe.0 virtual recipe.1
+      In-contains provided virtual (In-flat_map (λ (r : Recipe). map (λ (x : ProvideRow). x.name) r.provides) problem.recipes recipe.0
+      virtual recipe.1
       (subst (λ n. In n (map (λ (x : ProvideRow). x.name) recipe.0.provides)) (eq-same row.0.name virtual row.2)
       (In-map (λ (x : ProvideRow). x.name) recipe.0.provides row.0 row.1)))
 
@@ -171,6 +172,7 @@ module _ (problem : Problem) (names : List Text) (n : ℕ) where
         pairs-few names few,
         length-filter test (pairs_of names),
         count_by-le-length test (pairs_of names),
-        run-length edge_from edge_width (n + widths (map (possible_at problem) names)) (map (possible_edge problem) (filter test (pairs_of names))),
+        run-length edge_from edge_width (n + widths (map (possible_at problem) names))
+            (map (possible_edge problem) (filter test (pairs_of names))),
         length-map (filter test (pairs_of names)) (possible_edge problem),
       )

@@ -18,7 +18,8 @@ use Rattle.site_settings.specs.declared.settings.ExternalEntry.{ExternalEntry}
 use Rattle.site_settings.specs.declared.settings.PackageEntry.{PackageEntry}
 use Rattle.reuse_db.specs.declared.record.Record.{Record}
 use Rattle.problem.specs.Problems.{Problem, variants_at, package_entry_of, externals_in}
-use Rattle.graph_rules.specs.Kept.{external_node, installed_node, completed, written_or, default_in}
+use Rattle.graph_rules.specs.Kept.{external_node, completed, written_or, default_in}
+use Rattle.reuse_db.specs.Installed.{installed_node}
 use Rattle.possible_closure.proofs.Lists.{nothing, found-there, in_flat_map, from_flat_map, from_texts, in_texts, none_in_order, texts_in_order, no_more}
 use Rattle.table_plan.specs.Gathering.{listed}
 use Rattle.table_plan.specs.Kept.{external_nodes, kept_nodes}

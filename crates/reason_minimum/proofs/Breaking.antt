@@ -1,11 +1,10 @@
 -- Which demand a model breaks.
-use Prim.Native.Nat.{zero, suc}
-use Rattle.std.proofs.Common.{◌≡◌, ℕ, ◌+◌, ◌<◌, Bool, true, false, ◌||◌, ◌&&◌, List, [], ◌∷◌, ◌++◌, take, length, Option, Some, None, refl, sym, ◌∙◌, subst, ap, arith, eqb}
+use Rattle.std.proofs.Common.{◌≡◌, ℕ, ◌+◌, ◌<◌, Bool, true, false, ◌||◌, ◌&&◌, List, [], ◌∷◌, ◌++◌, take, length, Option, Some, None, refl, sym, ◌∙◌, subst, ap, eqb}
 use Rattle.std.specs.Prelude.{not, IfSome}
-use Rattle.std.proofs.lemmas.Bool.{false≢true, and_parts, eq-eqb}
+use Rattle.std.proofs.lemmas.Bool.{and_parts, eq-eqb}
 use Rattle.clause_store.specs.Lits.{clause_true}
 use Rattle.clause_store.specs.declared.Label.{Label}
-use Rattle.clause_store.specs.declared.Label.TheVariants.{Structure, Demand}
+use Rattle.clause_store.specs.declared.Label.TheVariants.{Demand}
 use Rattle.clause_store.specs.declared.list.Entry.{Entry}
 use Rattle.clause_store.specs.Clauses.{Meets, counts, entry_met, at_id}
 use Rattle.clause_store.proofs.Entries.{Meets-append}

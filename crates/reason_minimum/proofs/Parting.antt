@@ -92,7 +92,8 @@ part-all s ds a = ap (λ es. record s { entries = es }) (filter-all ds s.entries
 pub entry-there : (es : List Entry) (i : ℕ) → i < length es → (e : Entry) × (at_id es (i + 1) ≡ Some e)
     × (take (i + 1) es ≡ take i es ++ e ∷ []) × (drop i es ≡ e ∷ drop (i + 1) es)
 entry-there es i h = let n : i + 1 ≡ suc i = omega arith in
-    subst (λ k. (e : Entry) × (at_id es k ≡ Some e) × (take k es ≡ take i es ++ e ∷ []) × (drop i es ≡ e ∷ drop k es)) (sym n) (along es i h)
+    subst (λ k. (e : Entry) × (at_id es k ≡ Some e) × (take k es ≡ take i es ++ e ∷ []) × (drop i es ≡ e ∷ drop k es)) (sym n)
+    (along es i h)
   where
     along : (es : List Entry) (i : ℕ) → i < length es → (e : Entry) × (at_id es (suc i) ≡ Some e)
         × (take (suc i) es ≡ take i es ++ e ∷ []) × (drop i es ≡ e ∷ drop (suc i) es)

@@ -1,17 +1,16 @@
 -- How a list of demands is reduced.
 use Prim.Native.Nat.{zero, suc}
-use Rattle.std.proofs.Common.{◌≡◌, ◌⊎◌, ◌↔◌, ℕ, ◌+◌, ◌<◌, ◌≤◌, Bool, true, false, ◌||◌, ◌&&◌, List, [], ◌∷◌, ◌++◌, take, drop, length, Some, None, inl, inr, refl, sym, ◌∙◌, subst, ap, arith, cond, eqb, get_or, insert, length-drop}
+use Rattle.std.proofs.Common.{◌≡◌, ◌⊎◌, ℕ, ◌<◌, ◌≤◌, Bool, true, false, ◌||◌, ◌&&◌, List, [], ◌∷◌, drop, length, inl, inr, refl, sym, ◌∙◌, subst, ap, arith, cond, eqb, get_or, insert, length-drop}
 use Rattle.std.specs.Prelude.{not}
 use Rattle.std.specs.List.{filter}
 use Rattle.std.proofs.lemmas.Bool.{false≢true, eq-eqb, or_left, or_right, or_cases, and_parts, and_from}
 use Rattle.std.proofs.lemmas.Bool.Decides.{eqb_tells}
-use Rattle.clause_store.specs.declared.list.Entry.{Entry}
 use Rattle.clause_store.specs.Clauses.{Clauses, Meets}
 use Rattle.clause_solver.specs.Models.{values_in}
 use Rattle.explain_failure.specs.Uses.{stands, IsRising}
 use Rattle.explain_failure.specs.Rising.{with_number}
 use Rattle.explain_failure.proofs.Numbers.{stands-with, rising-with}
-use Rattle.reason_minimum.specs.Parts.{clauses_for, without}
+use Rattle.reason_minimum.specs.Parts.{clauses_for, without_number}
 use Rattle.reason_minimum.specs.Least.{IsMinimal, IsUnmet, HaveModels}
 use Rattle.reason_minimum.specs.Reductions.{in_either, all_but, IsModelFor, AreModels, IsReduction}
 use Rattle.reason_minimum.proofs.Standing.{stands-filter, stands-drop, rising-filter, rising-drop, above-away}
@@ -98,13 +97,14 @@ module _ (s : Clauses) (ns : List ℕ) (ms : List (List Bool)) (cs : List ℕ) (
       candidates_rise = rising-filter (stands core) (drop count cs) (rising-drop count cs r.candidates_rise);
       apart = λ d h. r.apart d (kept-fewer d h);
       unmet = λ v m. u v (Meets-down (stands rest) (stands core) (in_either ns kept) v s.entries kept-both m);
-      each_needed = models-less s (in_either ns cs) (in_either ns kept) ns ms (λ d h. either-more ns kept cs d (kept-fewer d) h) r.each_needed;
+      each_needed = models-less s (in_either ns cs) (in_either ns kept) ns ms (λ d h. either-more ns kept cs d (kept-fewer d) h)
+          r.each_needed;
     }
 
   -- a candidate is needed
   module _ (d : ℕ) (m : List Bool) (c : stands cs d ≡ true) (i : IsModelFor s (all_but (in_either ns cs) d) m) where
     abbrev pub others : List ℕ
-    others = without d cs
+    others = without_number d cs
 
     fewer : (e : ℕ) → stands others e ≡ true → (stands cs e ≡ true) × (eqb d e ≡ false)
     fewer e h =
@@ -187,7 +187,7 @@ module _ (s : Clauses) (ns : List ℕ) (ms : List (List Bool)) (cs : List ℕ) (
         | inr b ↦ absurd (false≢true (ap (λ xs. stands xs d) (sym q) ∙ b))
       ]
 
-      less : (d e : ℕ) → stands (without d ns) e ≡ true → all_but (in_either ns cs) d e ≡ true
+      less : (d e : ℕ) → stands (without_number d ns) e ≡ true → all_but (in_either ns cs) d e ≡ true
       less d e h =
           let g : (stands ns e && not (eqb d e)) ≡ true = sym (stands-filter (λ x. not (eqb d x)) ns e) ∙ h in
           and_from (in_either ns cs e) (not (eqb d e))
@@ -201,8 +201,8 @@ module _ (s : Clauses) (ns : List ℕ) (ms : List (List Bool)) (cs : List ℕ) (
       have (d ∷ ds) (k ∷ ks) i = (
         (
           i.0.0,
-          (Meets-part s (without d ns) (values_in k)).1
-              (Meets-less (all_but (in_either ns cs) d) (stands (without d ns)) (values_in k) s.entries (less d) i.0.1),
+          (Meets-part s (without_number d ns) (values_in k)).1
+              (Meets-less (all_but (in_either ns cs) d) (stands (without_number d ns)) (values_in k) s.entries (less d) i.0.1),
         ),
         have ds ks i.1,
       )
@@ -252,12 +252,12 @@ filter-short p (x ∷ xs) = by-bool (p x) (filter-short p xs)
 pub kept-shorter : (p : ℕ → Bool) (xs : List ℕ) (n : ℕ) → 0 < n → n ≤ length xs → length (filter p (drop n xs)) < length xs
 kept-shorter p xs n h w = omega (arith, h, w, filter-short p (drop n xs), length-drop n xs)
 
-pub without-shorter : (d : ℕ) (xs : List ℕ) → stands xs d ≡ true → length (without d xs) < length xs
+pub without-shorter : (d : ℕ) (xs : List ℕ) → stands xs d ≡ true → length (without_number d xs) < length xs
 without-shorter d [] h = absurd (false≢true h)
 without-shorter d (x ∷ xs) h = elim (eqb_tells d x) [
-  | inl q ↦ subst (λ b. length (cond (not b) (x ∷ without d xs) (without d xs)) < length (x ∷ xs)) (sym q.0)
+  | inl q ↦ subst (λ b. length (cond (not b) (x ∷ without_number d xs) (without_number d xs)) < length (x ∷ xs)) (sym q.0)
       (let k = filter-short (λ e. not (eqb d e)) xs in omega (arith, k))
-  | inr q ↦ subst (λ b. length (cond (not b) (x ∷ without d xs) (without d xs)) < length (x ∷ xs)) (sym q.0)
+  | inr q ↦ subst (λ b. length (cond (not b) (x ∷ without_number d xs) (without_number d xs)) < length (x ∷ xs)) (sym q.0)
       (let k = without-shorter d xs (rest q.1) in omega (arith, k))
 ]
   where

@@ -8,7 +8,7 @@ use Rattle.proof_log.specs.declared.line.Line.{Line}
 use Rattle.proof_log.specs.Certificates.{IsSpentLog}
 use Rattle.explain_failure.specs.Uses.{stands, IsRising}
 use Rattle.explain_failure.specs.Rising.{with_number}
-use Rattle.reason_minimum.specs.Parts.{clauses_for, without, AreAll}
+use Rattle.reason_minimum.specs.Parts.{clauses_for, without_number, AreAll}
 use Rattle.reason_minimum.specs.Least.{IsSpentFor}
 use Rattle.reason_minimum.specs.declared.reduction.Reduction.{Reduction}
 use Rattle.reason_minimum.specs.Reductions.{in_either, in_rest, left_of, all_but, IsModelFor, AreModels, IsReduction, Reduces, IsNeeded}
@@ -45,15 +45,15 @@ kept-round s old new count rest core r some within e u qc qn qm qs =
 
 -- a candidate was settled
 pub settled-less : (old new : Reduction) (d : ℕ) → stands old.candidates.items d ≡ true
-    → new.candidates.items ≡ without d old.candidates.items → new.several ≡ old.several → left_of new < left_of old
+    → new.candidates.items ≡ without_number d old.candidates.items → new.several ≡ old.several → left_of new < left_of old
 settled-less old new d h qc qs =
-    let less : length (without d old.candidates.items) < length old.candidates.items = without-shorter d old.candidates.items h in
-    let same : length new.candidates.items ≡ length (without d old.candidates.items) = ap length qc in omega (arith, less, same, qs)
+    let less : length (without_number d old.candidates.items) < length old.candidates.items = without-shorter d old.candidates.items h in
+    let same : length new.candidates.items ≡ length (without_number d old.candidates.items) = ap length qc in omega (arith, less, same, qs)
 
 -- it is put in its place with its model
 pub settled-reduces : (s : Clauses) (ns ns' cs cs' : List ℕ) (ms ms' : List (List Bool)) (d : ℕ) (m : List Bool) → IsReduction s ns ms cs
     → (stands cs d ≡ true) × IsModelFor s (all_but (in_either ns cs) d) m → ns' ≡ with_number ns d → AreModels s (in_either ns cs) ns' ms'
-    → cs' ≡ without d cs → IsReduction s ns' ms' cs'
+    → cs' ≡ without_number d cs → IsReduction s ns' ms' cs'
 settled-reduces s ns ns' cs cs' ms ms' d m r i qn models qc =
     let placed = subst (λ (xs : List ℕ). AreModels s (in_either ns cs) xs ms') qn models in
     subst (λ (xs : List ℕ). IsReduction s ns' ms' xs) (sym qc) (reduction-settled s ns ms cs r d m i.0 i.1 ns' ms' qn placed)

@@ -1,9 +1,8 @@
 -- Which numbers stand in parts of a list.
 use Prim.Native.Nat.{zero, suc}
-use Rattle.std.proofs.Common.{◌≡◌, ◌⊎◌, ℕ, ◌<◌, ◌≤◌, Bool, true, false, ◌||◌, ◌&&◌, List, [], ◌∷◌, drop, inl, inr, refl, sym, ◌∙◌, subst, ap, arith, cond, eqb, ltb}
-use Rattle.std.specs.Prelude.{not}
+use Rattle.std.proofs.Common.{◌≡◌, ℕ, Bool, true, false, ◌||◌, ◌&&◌, List, [], ◌∷◌, drop, inl, inr, refl, sym, ◌∙◌, ap, arith, cond, eqb}
 use Rattle.std.specs.List.{filter}
-use Rattle.std.proofs.lemmas.Bool.{false≢true, or_right, or_cases}
+use Rattle.std.proofs.lemmas.Bool.{false≢true, or_right}
 use Rattle.std.proofs.lemmas.Bool.Decides.{eqb_tells}
 use Rattle.explain_failure.specs.Uses.{stands, AllNumbersAbove, IsRising}
 

@@ -8,7 +8,7 @@ use Rattle.optimum_search.specs.Finding.{MeetsAll}
 use Rattle.explain_failure.specs.Uses.{stands, IsRising}
 use Rattle.reason_minimum.specs.declared.reasons.LeastReasons.{LeastReasons}
 use Rattle.reason_minimum.specs.declared.reasons.LeastReasons.TheVariants.{Satisfiable, Minimal, Spent}
-use Rattle.reason_minimum.specs.Parts.{clauses_for, without, AreAll}
+use Rattle.reason_minimum.specs.Parts.{clauses_for, without_number, AreAll}
 
 -- a value for each variable that meets all clauses
 abbrev pub IsModel : Clauses → List Bool → Type 0
@@ -23,7 +23,7 @@ abbrev pub HaveModels : Clauses → List ℕ → List ℕ → List (List Bool) �
 HaveModels s all [] [] = Unit {0}
 HaveModels s all [] (m ∷ ms) = ⊥
 HaveModels s all (d ∷ ds) [] = ⊥
-HaveModels s all (d ∷ ds) (m ∷ ms) = IsModel (clauses_for (without d all) s) m × HaveModels s all ds ms
+HaveModels s all (d ∷ ds) (m ∷ ms) = IsModel (clauses_for (without_number d all) s) m × HaveModels s all ds ms
 
 -- no assignment meets the clauses of these demands, and none of them can be left out
 pub record IsMinimal (s : Clauses) (ds : List ℕ) (models : List (List Bool)) : Type 0 where

@@ -1,5 +1,5 @@
 -- The clauses of some demands, and lists of demands.
-use Rattle.std.specs.Prelude.{◌≡◌, ℕ, Bool, true, false, not, ◌||◌, ◌==◌, List, [], ◌∷◌}
+use Rattle.std.specs.Prelude.{◌≡◌, ℕ, Bool, false, not, ◌||◌, ◌==◌, List, [], ◌∷◌}
 use Rattle.std.specs.List.{filter}
 use Rattle.clause_store.specs.declared.Label.{Label}
 use Rattle.clause_store.specs.declared.Label.TheVariants.{Structure, Demand}
@@ -16,8 +16,8 @@ abbrev pub clauses_for : List ℕ → Clauses → Clauses
 clauses_for ds s = record s { entries = filter (is_for (stands ds)) s.entries }
 
 -- a list without one number
-abbrev pub without : ℕ → List ℕ → List ℕ
-without d ds = filter (λ e. not (d == e)) ds
+abbrev pub without_number : ℕ → List ℕ → List ℕ
+without_number d ds = filter (λ e. not (d == e)) ds
 
 -- whether a demand is a label, and whether it labels one of the clauses
 abbrev pub is_label : Label → ℕ → Bool

@@ -3,7 +3,7 @@ ghost use Rattle.std.specs.Prelude.{◌≡◌, ◌≤◌, ◌||◌, ℕ, length,
 ghost use Rattle.std.specs.List.{filter};
 ghost use Rattle.explain_failure.specs.Uses.{stands, IsRising};
 ghost use Rattle.explain_failure.specs.Rising.{with_number};
-ghost use Rattle.reason_minimum.specs.Parts.{without};
+ghost use Rattle.reason_minimum.specs.Parts.{without_number};
 
 use std::alloc::{AllocError, Global};
 
@@ -75,8 +75,8 @@ pub fn those_of(alloc: Global, numbers: &[u64], others: &[u64]) -> Result<Vec<u6
 }
 
 /// The numbers but one.
-pub fn without(alloc: Global, numbers: &[u64], number: u64) -> Result<Vec<u64>, AllocError>
-    ensures { IfOk result (λ kept. kept.items ≡ without number numbers.now) }
+pub fn without_number(alloc: Global, numbers: &[u64], number: u64) -> Result<Vec<u64>, AllocError>
+    ensures { IfOk result (λ kept. kept.items ≡ without_number number numbers.now) }
 {
     let mut kept = Vec::new(alloc);
     for other in numbers {

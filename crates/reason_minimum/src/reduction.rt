@@ -4,12 +4,12 @@ ghost use Rattle.std.specs.List.{filter};
 ghost use Rattle.clause_store.specs.Clauses.{Clauses};
 ghost use Rattle.explain_failure.specs.Uses.{stands, IsRising};
 ghost use Rattle.explain_failure.specs.Rising.{with_number};
-ghost use Rattle.reason_minimum.specs.Parts.{without};
+ghost use Rattle.reason_minimum.specs.Parts.{without_number};
 ghost use Rattle.reason_minimum.specs.Reductions.{Reduces, IsNeeded, IsModelFor, AreModels, all_but, in_rest};
 ghost use Rattle.reason_minimum.specs.declared.reasons.LeastReasons.TheVariants.{Minimal};
 
 use crate::broken::only_broken;
-use crate::numbers::{insertion_place, joined, stands, those_of, without};
+use crate::numbers::{insertion_place, joined, stands, those_of, without_number};
 use crate::reasons::LeastReasons;
 use clause_store::ClauseList;
 use plain_data::List;
@@ -100,11 +100,11 @@ impl Reduction {
         ensures reduces { OnOk result ((s : Clauses) → Reduces s self.old
             → IsNeeded s self.old model demand → Reduces s self.new) }
         ensures candidates { OnOk result (self.new.candidates.items
-            ≡ without demand self.old.candidates.items) }
+            ≡ without_number demand self.old.candidates.items) }
         ensures several { OnOk result (self.new.several ≡ self.old.several) }
     {
         add_needed(&mut self.needed, &mut self.models, demand, model)?;
-        self.candidates = without(alloc, self.candidates.as_slice(), demand)?;
+        self.candidates = without_number(alloc, self.candidates.as_slice(), demand)?;
         Ok(())
     }
 

@@ -50,8 +50,8 @@ word_value place w =
     else Err place
 
 -- a value is read before what stands behind it is looked at, and nothing may stand there
-abbrev pub alone : ℕ → List Atom → Read PlacedValue → Read PlacedValue
-alone place behind read = then_read read (λ r. if is_empty behind then Ok r else Err place)
+abbrev pub unless_more : ℕ → List Atom → Read PlacedValue → Read PlacedValue
+unless_more place behind read = then_read read (λ r. if is_empty behind then Ok r else Err place)
 
 -- ---- strings beside each other
 
@@ -74,12 +74,12 @@ text_value place text = then_read text (λ w. Ok (one place (Text w)))
 abbrev pub plain_value : List ℕ → Token → List Atom → Read PlacedValue
 plain_value bytes t more =
     if is_text_kind t.kind then text_value t.start (as_text t.start (join (string bytes t) (texts bytes t.start more)))
-    else alone t.start more (word_value t.start (word bytes t))
+    else unless_more t.start more (word_value t.start (word bytes t))
 
 abbrev pub value_by : List ℕ → List Atom → ℕ → Read PlacedValue
 value_by bytes [] stop = Err stop
 value_by bytes (Plain t ∷ more) stop = plain_value bytes t more
-value_by bytes (Inner place read ∷ more) stop = alone place more read
+value_by bytes (Inner place read ∷ more) stop = unless_more place more read
 
 -- the value that a segment is
 unfoldable pub segment_value : List ℕ → Segment → Read PlacedValue

@@ -7,7 +7,7 @@ ghost use Rattle.std.specs.Str.{bytes_eq};
 ghost use Rattle.recipe_statements.specs.Lines.{word, is_text_kind};
 ghost use Rattle.recipe_values.specs.Reads.{Adds, join};
 ghost use Rattle.recipe_values.specs.Strings.{string, as_text};
-ghost use Rattle.recipe_values.specs.Values.{one, is_digits, word_value, alone, atom_text, texts, text_value, plain_value, segment_value};
+ghost use Rattle.recipe_values.specs.Values.{one, is_digits, word_value, unless_more, atom_text, texts, text_value, plain_value, segment_value};
 
 use crate::text::{Read, add_string, kept};
 use crate::{Atom, Pile, PlacedValue, Scalar, Segment, Value};
@@ -90,8 +90,8 @@ fn word_value(alloc: Global, place: u64, w: &[u8]) -> Result<Read<PlacedValue>, 
 }
 
 /// A value at `place`, which has been read, with what stands behind it.
-fn alone(place: u64, behind: &Pile<Atom>, read: Read<PlacedValue>) -> Read<PlacedValue>
-    ensures { result ≡ alone place behind.now read }
+fn unless_more(place: u64, behind: &Pile<Atom>, read: Read<PlacedValue>) -> Read<PlacedValue>
+    ensures { result ≡ unless_more place behind.now read }
 {
     match read {
         Ok(reading) if behind.is_empty() => Ok(reading),
@@ -197,7 +197,7 @@ fn plain_value(
         return Ok(text_value(token.start, text));
     }
     let read = word_value(alloc, token.start, word(bytes, token))?;
-    Ok(alone(token.start, &behind, read))
+    Ok(unless_more(token.start, &behind, read))
 }
 
 /// The value that a segment is.
@@ -214,6 +214,6 @@ pub(crate) fn value_of(
     match atoms.pop() {
         None => Ok(Err(stop)),
         Some(Atom::Plain(token)) => plain_value(alloc, bytes, token, atoms),
-        Some(Atom::Inner(place, read)) => Ok(alone(place, &atoms, read)),
+        Some(Atom::Inner(place, read)) => Ok(unless_more(place, &atoms, read)),
     }
 }

@@ -26,14 +26,14 @@ abbrev pub number_in : Data → Option ℕ
 number_in d = option_and_then as_u64 (as_number d)
 
 -- the file's version is 2, in which dependencies may name virtuals; a file of another version is read as one of version 1
-abbrev pub may_name : Members → Bool
-may_name ms = is_two (option_and_then number_in (get_member (codes "version") ms))
+abbrev pub may_name_virtuals : Members → Bool
+may_name_virtuals ms = is_two (option_and_then number_in (get_member (codes "version") ms))
 
 unfoldable pub records_at : Data → Reading (List Record)
 records_at d = do
   ms ← members_of d
   let odd = first_odd file_keys ms in do
-    records ← field (list_of (record_entry_at (may_name ms))) odd (codes "records") ms
+    records ← field (list_of (record_entry_at (may_name_virtuals ms))) odd (codes "records") ms
     version ← field version_at odd (codes "version") ms
     _ ← none_odd odd
     Ok records

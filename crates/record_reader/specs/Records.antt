@@ -49,7 +49,7 @@ virtuals_at d = do
 
 -- virtuals are named, where they may be
 abbrev pub has_virtuals : Bool → Members → Bool
-has_virtuals may_name ms = may_name && is_some (get_member (codes "virtuals") ms)
+has_virtuals may_name_virtuals ms = may_name_virtuals && is_some (get_member (codes "virtuals") ms)
 
 abbrev pub odd_dependency_key : Bool → Members → Option Text
 odd_dependency_key names ms =
@@ -61,9 +61,9 @@ virtuals_in names odd ms = if names then field virtuals_at odd (codes "virtuals"
 
 -- in the format's second version it may name virtuals
 unfoldable pub dependency_at : Bool → Data → Reading Dependency
-dependency_at may_name d = do
+dependency_at may_name_virtuals d = do
   ms ← members_of d
-  let names = has_virtuals may_name ms in let odd = odd_dependency_key names ms in do
+  let names = has_virtuals may_name_virtuals ms in let odd = odd_dependency_key names ms in do
     hash ← field (text_of hash_meaning) odd (codes "hash") ms
     kinds ← field kinds_at odd (codes "kinds") ms
     virtuals ← virtuals_in names odd ms
@@ -73,9 +73,9 @@ dependency_at may_name d = do
 -- ---- the keys, in three runs: a lock file has keys of its own between them
 
 unfoldable pub front_at : Bool → Option Text → Members → Reading Front
-front_at may_name odd ms = do
+front_at may_name_virtuals odd ms = do
   compiler ← field (null_or compiler_at) odd (codes "compiler") ms
-  dependencies ← field (set_of Some (Some (codes "hash")) (dependency_at may_name)) odd (codes "dependencies") ms
+  dependencies ← field (set_of Some (Some (codes "hash")) (dependency_at may_name_virtuals)) odd (codes "dependencies") ms
   Ok (record { compiler = compiler; dependencies = dependencies })
 
 unfoldable pub middle_at : Option Text → Members → Reading Middle
@@ -112,9 +112,9 @@ record_keys = codes "compiler" ∷ codes "dependencies" ∷ codes "external" ∷
 
 -- an object with just these keys
 unfoldable pub record_entry_at : Bool → Data → Reading Record
-record_entry_at may_name d = do
+record_entry_at may_name_virtuals d = do
   ms ← members_of d
   let odd = first_odd record_keys ms in do
-    front ← front_at may_name odd ms
+    front ← front_at may_name_virtuals odd ms
     middle ← middle_at odd ms
     back_at front middle odd ms

@@ -19,16 +19,16 @@ use variant_values::ValueSet;
 #[derive(Clone, Copy)]
 pub struct DependencyForm {
     /// Whether it may name virtuals.
-    pub may_name: bool,
+    pub may_name_virtuals: bool,
 }
 
 impl Reader<Dependency> for DependencyForm {
-    ghost reads = { λ form. dependency_at form.may_name };
+    ghost reads = { λ form. dependency_at form.may_name_virtuals };
 
     #[tactic(auto, unfolding(crate::specs::Records::dependency_at))]
     fn read(&self, alloc: Global, value: &Value) -> Result<Dependency, JsonFault> {
         let members = members_of(alloc, value)?;
-        let names = has_virtuals(members, self.may_name);
+        let names = has_virtuals(members, self.may_name_virtuals);
         let odd = odd_key(members, names);
         let hash = field(alloc, members, odd, "hash", &HashText)?;
         let kinds = field(alloc, members, odd, "kinds", &KindsForm)?;
@@ -43,15 +43,16 @@ impl Reader<Dependency> for DependencyForm {
 }
 
 /// Whether the key `virtuals` stands there, and may.
-fn has_virtuals(members: &Map<String, Value>, may_name: bool) -> bool
-    ensures { result ≡ has_virtuals may_name (members_view members.now.entries) }
+fn has_virtuals(members: &Map<String, Value>, may_name_virtuals: bool) -> bool
+    ensures { result ≡ has_virtuals may_name_virtuals (members_view members.now.entries) }
 {
-    may_name && member(members, "virtuals").is_some()
+    may_name_virtuals && member(members, "virtuals").is_some()
 }
 
 /// The least key that is missing or unknown.
 fn odd_key(members: &Map<String, Value>, names: bool) -> Option<&str>
-    ensures { option_map (λ k. k.now) result ≡ odd_dependency_key names (members_view members.now.entries) }
+    ensures { option_map (λ k. k.now) result ≡ odd_dependency_key names
+        (members_view members.now.entries) }
 {
     if names {
         first_odd(members, &["hash", "kinds", "virtuals"])

@@ -1,7 +1,7 @@
 //! The values of a file.
 ghost use Rattle.std.specs.Prelude.{◌≡◌};
 ghost use Rattle.serde_json.specs.View.{members_view};
-ghost use Rattle.record_reader.specs.Files.{may_name, records_at, version_at};
+ghost use Rattle.record_reader.specs.Files.{may_name_virtuals, records_at, version_at};
 
 use crate::RecordForm;
 use json_readers::{
@@ -23,14 +23,14 @@ impl Reader<List<Record>> for RecordsForm {
     #[tactic(auto, unfolding(crate::specs::Files::records_at))]
     fn read(&self, alloc: Global, value: &Value) -> Result<List<Record>, JsonFault> {
         let members = members_of(alloc, value)?;
-        let may_name = may_name(members);
+        let may_name_virtuals = may_name_virtuals(members);
         let odd = first_odd(members, &["records", "version"]);
         let records = field(
             alloc,
             members,
             odd,
             "records",
-            &ListOf(RecordForm { may_name }),
+            &ListOf(RecordForm { may_name_virtuals }),
         )?;
         let _version = field(alloc, members, odd, "version", &FileVersion)?;
         none_odd(alloc, odd)?;
@@ -39,8 +39,8 @@ impl Reader<List<Record>> for RecordsForm {
 }
 
 /// Whether the version of a file's format is 2, in which dependencies may name virtuals.
-pub fn may_name(members: &Map<String, Value>) -> bool
-    ensures { result ≡ may_name (members_view members.now.entries) }
+pub fn may_name_virtuals(members: &Map<String, Value>) -> bool
+    ensures { result ≡ may_name_virtuals (members_view members.now.entries) }
 {
     match member(members, "version") {
         Some(version) => version.as_u64() == Some(2),

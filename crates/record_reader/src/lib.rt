@@ -24,7 +24,7 @@ mod variants;
 
 pub use compiler::CompilerForm;
 pub use dependency::{DependencyForm, VirtualsForm};
-pub use file::{FileVersion, RecordsForm, may_name};
+pub use file::{FileVersion, RecordsForm, may_name_virtuals};
 pub use hash::HashText;
 pub use kinds::KindsForm;
 pub use read::read_database;

@@ -37,11 +37,11 @@ pub struct Middle {
 #[derive(Clone, Copy)]
 pub struct RecordForm {
     /// Whether dependencies may name virtuals.
-    pub may_name: bool,
+    pub may_name_virtuals: bool,
 }
 
 impl Reader<Record> for RecordForm {
-    ghost reads = { λ form. record_entry_at form.may_name };
+    ghost reads = { λ form. record_entry_at form.may_name_virtuals };
 
     #[tactic(auto, unfolding(crate::specs::Records::record_entry_at))]
     fn read(&self, alloc: Global, value: &Value) -> Result<Record, JsonFault> {
@@ -58,7 +58,7 @@ impl Reader<Record> for RecordForm {
             "version",
         ];
         let odd = first_odd(members, &keys);
-        let front = read_front(alloc, members, odd, self.may_name)?;
+        let front = read_front(alloc, members, odd, self.may_name_virtuals)?;
         let middle = read_middle(alloc, members, odd)?;
         read_back(alloc, members, odd, front, middle)
     }
@@ -70,16 +70,16 @@ pub fn read_front(
     alloc: Global,
     members: &Map<String, Value>,
     odd: Option<&str>,
-    may_name: bool,
+    may_name_virtuals: bool,
 ) -> Result<Front, JsonFault>
-    ensures { Gives result (front_at may_name (option_map (λ k. k.now) odd.entry)
+    ensures { Gives result (front_at may_name_virtuals (option_map (λ k. k.now) odd.entry)
         (members_view members.now.entries)) }
 {
     let compiler = field(alloc, members, odd, "compiler", &NullOr(CompilerForm))?;
     let form = SetOf {
         texts: AnyText,
         key: Some("hash"),
-        entries: DependencyForm { may_name },
+        entries: DependencyForm { may_name_virtuals },
     };
     let dependencies = field(alloc, members, odd, "dependencies", &form)?;
     Ok(Front {

@@ -1,3 +1,4 @@
 -- what public contracts say
 pub mod Canonical
 pub mod Databases
+pub mod Installed

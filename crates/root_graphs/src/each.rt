@@ -111,7 +111,8 @@ pub fn best_of_each<R: Threads + Sync, G: Gate>(
     let behind = front.len() as u64;
     let (fewer, rest) = (threads - threads / 2, threads / 2);
     let ahead = move || -> Result<Vec<Answer>, AllocError>
-        requires { IsSync R.row × IsSync G.row × (length front.now < 2 ^ 64) × All IsSolvable front.now }
+        requires { IsSync R.row × IsSync G.row × (length front.now < 2 ^ 64)
+            × All IsSolvable front.now }
         ensures { IfOk result (λ answers. AreAnswers budget front.entry.now answers.items) }
     { best_beside(rt, alloc, gate, 0, 0, fewer, front, budget) };
     let beyond = move || -> Result<Vec<Answer>, AllocError>

@@ -72,7 +72,8 @@ halves_first parts front back k place behind one other at_front at_back at first
 -- ---- one part more (i of them are accepted)
 
 -- a part that is accepted leaves the search for the first that is refused to those behind it
-pub first_later : (place i : ℕ) (part : CheckedPart) (parts : List CheckedPart) (step : Step) → i < length parts → part ≡ get_or parts i part
+pub first_later : (place i : ℕ) (part : CheckedPart) (parts : List CheckedPart) (step : Step) → i < length parts
+    → part ≡ get_or parts i part
     → step ≡ step_of part → refused_at (place + i) step ≡ None
     → first_refused (place + i) (drop i parts) ≡ first_refused place parts
     → first_refused (place + (i + 1)) (drop (i + 1) parts) ≡ first_refused place parts

@@ -11,7 +11,8 @@ use Rattle.root_groups.specs.declared.checked.CheckedPart.{CheckedPart}
 -- the log is a certificate of the values, over the clauses of the part
 abbrev pub IsCertified : CheckedPart → Type 0
 IsCertified checked =
-    IsCertificate checked.part.clauses.vars (clauses_of checked.part.clauses.entries) checked.part.bits.items checked.values.items checked.log
+    IsCertificate checked.part.clauses.vars (clauses_of checked.part.clauses.entries) checked.part.bits.items
+    checked.values.items checked.log
 
 -- what the check of its lines ends with
 abbrev pub step_of : CheckedPart → Step

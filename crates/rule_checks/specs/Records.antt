@@ -6,7 +6,8 @@ use Rattle.graph_core.specs.declared.node.Node.{Node}
 use Rattle.problem.specs.Problems.{Problem}
 use Rattle.problem.specs.Records.{kept_dependencies}
 use Rattle.reuse_db.specs.declared.record.Record.{Record}
-use Rattle.graph_rules.specs.Kept.{same_attributes, installed_node, keeps_child, is_child}
+use Rattle.graph_rules.specs.Kept.{same_attributes, keeps_child, is_child}
+use Rattle.reuse_db.specs.Installed.{installed_node}
 
 -- the node is that of the record, with edges exactly to its link and run children
 abbrev pub keeps_record : Problem → Content → Node → Record → Bool

@@ -3,7 +3,8 @@ ghost use Rattle.std.specs.Prelude.{◌≡◌, ◌&&◌};
 ghost use Rattle.std.specs.Option.{option_eq};
 ghost use Rattle.std.specs.Str.{bytes_eq};
 ghost use Rattle.problem.specs.Problems.{same_compiler};
-ghost use Rattle.graph_rules.specs.Kept.{installed_node, same_variants, same_attributes};
+ghost use Rattle.graph_rules.specs.Kept.{same_variants, same_attributes};
+ghost use Rattle.reuse_db.specs.Installed.{installed_node};
 
 use graph_core::{Compiler, Node};
 use plain_data::{List, Same, Word};
@@ -52,7 +53,7 @@ pub(crate) fn same_attributes(a: &Node, b: &Node) -> bool
 }
 
 /// Whether a node is that of a record in all but origin.
-#[tactic(auto, unfolding(graph_rules::specs::Kept::same_attributes, graph_rules::specs::Kept::installed_node))]
+#[tactic(auto, unfolding(graph_rules::specs::Kept::same_attributes, reuse_db::specs::Installed::installed_node))]
 pub(crate) fn same_installed(node: &Node, entry: &Record) -> bool
     ensures { result ≡ same_attributes node.now (installed_node entry.now) }
 {

@@ -8,7 +8,7 @@ use Rattle.clause_formulas.specs.Rules.{Proposition}
 use Rattle.graph_core.specs.Graphs.{Text}
 use Rattle.literal_table.specs.Tables.{Table}
 use Rattle.graph_formulas.specs.Facts.{GraphWord}
-use Rattle.graph_formulas.specs.Lists.{first_rules, apart_rules, half_count, halves_rule, few_rules}
+use Rattle.graph_formulas.specs.Lists.{first_rules, apart_rules, half_length, halves_rule, few_rules}
 use Rattle.graph_formulas.specs.Words.{rule_said}
 use Rattle.rule_formulas.specs.Terms.{apart_said}
 
@@ -49,8 +49,8 @@ module _ {T : Type 0} (path : Text → Text → Statement) (table : Table) (rule
   few-short (suc times) xs le = let short : nat_lt 8 (length xs) ≡ false = grind (arith, nat_tests) in rw short refl
 
   few-long : (times : ℕ) (xs : List T) → (times ≡ 0 → ⊥) → 8 < length xs
-      → few_rules times rule xs ≡ halves_rule rule (take (half_count xs) xs) (drop (half_count xs) xs)
-      ∷ (few_rules (times - 1) rule (take (half_count xs) xs) ++ few_rules (times - 1) rule (drop (half_count xs) xs))
+      → few_rules times rule xs ≡ halves_rule rule (take (half_length xs) xs) (drop (half_length xs) xs)
+      ∷ (few_rules (times - 1) rule (take (half_length xs) xs) ++ few_rules (times - 1) rule (drop (half_length xs) xs))
   unfolding few_rules
   few-long zero xs some lt = absurd (some refl)
   few-long (suc times) xs some lt =
@@ -60,16 +60,16 @@ module _ {T : Type 0} (path : Text → Text → Statement) (table : Table) (rule
 
   -- the halves and what joins them
   pub few-joined : (old one two three : List Statement) (times : ℕ) (xs : List T) (h : Statement) → (times ≡ 0 → ⊥) → 8 < length xs
-      → one ≡ old ++ h ∷ [] → h ≡ rule_said path table (halves_rule rule (take (half_count xs) xs) (drop (half_count xs) xs))
-      → two ≡ one ++ words (few_rules (times - 1) rule (take (half_count xs) xs))
-      → three ≡ two ++ words (few_rules (times - 1) rule (drop (half_count xs) xs))
+      → one ≡ old ++ h ∷ [] → h ≡ rule_said path table (halves_rule rule (take (half_length xs) xs) (drop (half_length xs) xs))
+      → two ≡ one ++ words (few_rules (times - 1) rule (take (half_length xs) xs))
+      → three ≡ two ++ words (few_rules (times - 1) rule (drop (half_length xs) xs))
       → three ≡ old ++ words (few_rules times rule xs)
   few-joined old one two three times xs h some lt pushed halves front back =
-      let a = few_rules (times - 1) rule (take (half_count xs) xs) in
-      let b = few_rules (times - 1) rule (drop (half_count xs) xs) in
+      let a = few_rules (times - 1) rule (take (half_length xs) xs) in
+      let b = few_rules (times - 1) rule (drop (half_length xs) xs) in
       back ∙ ap (λ fs. fs ++ words b) (front ∙ ap (λ fs. fs ++ words a) pushed)
       ∙ append_assoc (old ++ h ∷ []) (words a) (words b) ∙ append_assoc old (h ∷ []) (words a ++ words b)
       ∙ ap (λ k. old ++ k ∷ (words a ++ words b)) halves
-      ∙ ap (λ fs. old ++ rule_said path table (halves_rule rule (take (half_count xs) xs) (drop (half_count xs) xs)) ∷ fs)
+      ∙ ap (λ fs. old ++ rule_said path table (halves_rule rule (take (half_length xs) xs) (drop (half_length xs) xs)) ∷ fs)
       (sym (map-append (rule_said path table) a b))
       ∙ ap (λ rs. old ++ words rs) (sym (few-long times xs some lt))

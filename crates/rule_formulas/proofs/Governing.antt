@@ -13,7 +13,7 @@ use Rattle.literal_table.specs.Tables.{Table}
 use Rattle.problem.specs.Problems.{Problem}
 use Rattle.condition_rules.specs.Words.{is_one_text}
 use Rattle.graph_formulas.specs.Facts.{has_value, node_has, word_said}
-use Rattle.graph_formulas.specs.Lists.{some, half_count, last_in_turn, last_halved, last_one}
+use Rattle.graph_formulas.specs.Lists.{some, half_length, last_in_turn, last_halved, last_one}
 use Rattle.graph_formulas.specs.Words.{rule_said}
 use Rattle.graph_formulas.specs.Terms.{Term, term_said, known_rule, met_rule}
 use Rattle.graph_formulas.specs.Variants.{count_rule, allows_rule, definitions, variant_there_rule, variant_rule, variants_rule}
@@ -56,12 +56,13 @@ module _ (t : Table) (condition : Text → Condition → Statement) (name varian
   turn-short times rows le = in-turn-said rows ∙ ap (in_words g) (sym (halved-short (met_by name) (allowed_by name variant) times rows le))
 
   pub halves-said : (times : ℕ) (rows : Definitions) (front back : Statement) → (times ≡ 0 → ⊥) → 8 < length rows
-      → front ≡ last_said t condition name variant (times - 1) (take (half_count rows) rows)
-      → back ≡ last_said t condition name variant (times - 1) (drop (half_count rows) rows)
-      → any_statement (both_statements (opposite (met_said condition name (drop (half_count rows) rows))) front ∷ back ∷ []) ≡ last_said t condition name
+      → front ≡ last_said t condition name variant (times - 1) (take (half_length rows) rows)
+      → back ≡ last_said t condition name variant (times - 1) (drop (half_length rows) rows)
+      → any_statement (both_statements (opposite (met_said condition name (drop (half_length rows) rows))) front ∷ back ∷ [])
+      ≡ last_said t condition name
       variant times rows
   halves-said times rows front back some long first second =
-      rw (first, second, met-said (drop (half_count rows) rows)) refl
+      rw (first, second, met-said (drop (half_length rows) rows)) refl
       ∙ ap (in_words g) (sym (halved-long (met_by name) (allowed_by name variant) times rows some long))
 
   pub last-is : (rows : Definitions) (ds : List VariantRow) → map own rows ≡ ds
@@ -102,7 +103,8 @@ module _ (path : Text → Text → Statement) (condition : Text → Condition �
   variant-agree name variant = both-same _ _ _ _
       (ap (λ s. implication_of s (in_words h (variant_there_rule name variant)))
       (some-agree f h (λ row. met_rule name row.when) (λ row. refl) (definitions problem name variant)))
-      (ap (λ s. implication_of (in_words h (variant_there_rule name variant)) s) (last-agree name variant (definitions problem name variant)))
+      (ap (λ s. implication_of (in_words h (variant_there_rule name variant)) s)
+      (last-agree name variant (definitions problem name variant)))
 
   pub variants-agree : (variants : List Text) (name : Text)
       → in_words f (variants_rule problem variants name) ≡ in_words h (variants_rule problem variants name)

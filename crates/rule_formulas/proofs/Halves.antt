@@ -7,7 +7,7 @@ use Rattle.std.specs.List.{drop-map}
 use Rattle.std.specs.Prelude.{if◌then◌else◌}
 use Rattle.clause_formulas.specs.Statements.{Statement, or, both_statements, opposite}
 use Rattle.clause_formulas.specs.Rules.{Proposition, in_words}
-use Rattle.graph_formulas.specs.Lists.{some, half_count, last_in_turn, last_of_halves, last_halved}
+use Rattle.graph_formulas.specs.Lists.{some, half_length, last_in_turn, last_of_halves, last_halved}
 use Rattle.word_formulas.proofs.PathFree.{some-agree}
 
 -- ---- the code's steps
@@ -23,8 +23,8 @@ module _ {W T : Type 0} (passes rule : T → Proposition W) where
   halved-short (suc times) xs le = let short : nat_lt 8 (length xs) ≡ false = grind (arith, nat_tests) in rw short refl
 
   pub halved-long : (times : ℕ) (xs : List T) → (times ≡ 0 → ⊥) → 8 < length xs → last_halved times passes rule xs
-      ≡ last_of_halves passes (drop (half_count xs) xs) (last_halved (times - 1) passes rule (take (half_count xs) xs))
-      (last_halved (times - 1) passes rule (drop (half_count xs) xs))
+      ≡ last_of_halves passes (drop (half_length xs) xs) (last_halved (times - 1) passes rule (take (half_length xs) xs))
+      (last_halved (times - 1) passes rule (drop (half_length xs) xs))
   unfolding last_halved
   halved-long zero xs some lt = absurd (some refl)
   halved-long (suc times) xs some lt =
@@ -49,11 +49,11 @@ module _ {W T U : Type 0} (passes rule : T → Proposition W) (h : U → T) wher
   halved-mapped zero xs = in-turn-mapped xs
   halved-mapped (suc times) xs = rw (
     length-map xs h,
-    take-map h (half_count xs) xs,
-    drop-map h (half_count xs) xs,
-    halved-mapped times (take (half_count xs) xs),
-    halved-mapped times (drop (half_count xs) xs),
-    some-mapped (drop (half_count xs) xs),
+    take-map h (half_length xs) xs,
+    drop-map h (half_length xs) xs,
+    halved-mapped times (take (half_length xs) xs),
+    halved-mapped times (drop (half_length xs) xs),
+    some-mapped (drop (half_length xs) xs),
     in-turn-mapped xs,
   ) refl
 
@@ -63,7 +63,8 @@ turn-same : (a b m n c d e f : Statement) → a ≡ b → m ≡ n → c ≡ d �
     → or (both_statements (both_statements (opposite a) m) c) e ≡ or (both_statements (both_statements (opposite b) n) d) f
 turn-same a b m n c d e f p q r s = rw (p, q, r, s) refl
 
-module _ {W T : Type 0} (f g : W → Statement) (passes rule : T → Proposition W) (met : (x : T) → in_words f (passes x) ≡ in_words g (passes x))
+module _ {W T : Type 0} (f g : W → Statement) (passes rule : T → Proposition W) (met : (x : T)
+    → in_words f (passes x) ≡ in_words g (passes x))
     (kept : (x : T) → in_words f (rule x) ≡ in_words g (rule x)) where
   in-turn-agree : (xs : List T) → in_words f (last_in_turn passes rule xs) ≡ in_words g (last_in_turn passes rule xs)
   in-turn-agree [] = refl
@@ -74,8 +75,8 @@ module _ {W T : Type 0} (f g : W → Statement) (passes rule : T → Proposition
   unfolding last_halved
   halved-agree zero xs = in-turn-agree xs
   halved-agree (suc times) xs =
-      let front = take (half_count xs) xs in
-      let back = drop (half_count xs) xs in
+      let front = take (half_length xs) xs in
+      let back = drop (half_length xs) xs in
       elim (nat_lt 8 (length xs)) as (λ b. in_words f
       (if b then last_of_halves passes back (last_halved times passes rule front) (last_halved times passes rule back) else last_in_turn
       passes rule xs)

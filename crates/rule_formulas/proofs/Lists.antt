@@ -14,34 +14,23 @@ use Rattle.recipe_data.specs.OfSpecGrammar.Condition.{Condition}
 use Rattle.recipe_data.specs.declared.recipe.RequireRow.{RequireRow}
 use Rattle.graph_core.specs.Graphs.{Text}
 use Rattle.literal_table.specs.Choices.{Choices, choice_values}
-use Rattle.literal_table.specs.Tables.{Table, packages_of}
+use Rattle.literal_table.specs.Tables.{Table}
 use Rattle.problem.specs.Problems.{Problem, world_of}
-use Rattle.virtuals.specs.Virtuals.{is_virtual}
 use Rattle.graph_formulas.specs.Facts.{GraphWord, word_said}
-use Rattle.graph_formulas.specs.Lists.{some, first_rules, apart_rules, half_count, halves_rule, few_rules, just_one}
+use Rattle.graph_formulas.specs.Lists.{some, first_rules, apart_rules, half_length, halves_rule, few_rules, just_one}
 use Rattle.graph_formulas.specs.Parts.{holds_rule}
 use Rattle.graph_formulas.specs.Words.{names_for, rule_said}
 use Rattle.graph_formulas.specs.Terms.{Term, term_said, known_rule}
 use Rattle.graph_formulas.specs.Laws.{term_formula}
 use Rattle.graph_formulas.specs.Directives.{choice_rule}
 use Rattle.word_formulas.proofs.Steps.{both-same}
-use Rattle.rule_formulas.specs.Terms.{is_asked, choice_said}
+use Rattle.rule_formulas.specs.Terms.{choice_said}
 
 -- a name that is one of the choices
 pub any-offered : (child : Text) (cs : Choices Text)
     → list_any (λ (c : Text × Lit). bytes_eq child c.0) cs ≡ list_any (bytes_eq child) (choice_values cs)
 any-offered child [] = refl
 any-offered child (c ∷ cs) = rw (any-offered child cs) refl
-
-module _ (table : Table) (world : World) (child asked : Text) where
-  -- a virtual may ask for the packages of the table
-  pub asked-virtual : is_virtual world.recipes asked ≡ true
-      → list_any (λ (c : Text × Lit). bytes_eq child c.0) (packages_of table asked) ≡ is_asked world (names_for table) child asked
-  asked-virtual is = rw is (any-offered child (packages_of table asked))
-
-  -- a package for itself
-  pub asked-package : is_virtual world.recipes asked ≡ false → bytes_eq asked child ≡ is_asked world (names_for table) child asked
-  asked-package is = rw is refl
 
 -- a list in two steps
 pub over-mapped : {A B : Type 0} (f : B → Statement) (g : A → B) (xs : List A) → map (λ x. f (g x)) xs ≡ map f (map g xs)
@@ -64,7 +53,8 @@ filter-mapped f g p (x ∷ xs) = filter-mapped-cases (p (g x)) (filter-mapped f 
 module _ (path : Text → Text → Statement) (condition : Text → Condition → Statement) (table : Table) where
   module _ {T : Type 0} (rule : T → Proposition GraphWord) where
     -- a rule over facts is one over terms: some of a list
-    pub some-known : (xs : List T) → rule_said path table (some rule xs) ≡ term_formula path condition table (some (λ x. known_rule (rule x)) xs)
+    pub some-known : (xs : List T) → rule_said path table (some rule xs) ≡ term_formula path condition table
+        (some (λ x. known_rule (rule x)) xs)
     some-known [] = refl
     some-known (x ∷ xs) = ap (λ f. or (rule_said path table (rule x)) f) (some-known xs)
 
@@ -88,22 +78,27 @@ module _ (path : Text → Text → Statement) (condition : Text → Condition �
 
     apart-known : (xs : List T) → words (apart_rules rule xs) ≡ terms (apart_rules known xs)
     apart-known [] = refl
-    apart-known (x ∷ xs) = both-append (first_rules rule x xs) (apart_rules rule xs) (first_rules known x xs) (apart_rules known xs) (first-known x xs) (apart-known xs)
+    apart-known (x ∷ xs) = both-append (first_rules rule x xs) (apart_rules rule xs) (first_rules known x xs) (apart_rules known xs)
+        (first-known x xs) (apart-known xs)
 
-    halves-known : (xs ys : List T) → rule_said path table (halves_rule rule xs ys) ≡ term_formula path condition table (halves_rule known xs ys)
+    halves-known : (xs ys : List T) → rule_said path table (halves_rule rule xs ys) ≡ term_formula path condition table
+        (halves_rule known xs ys)
     halves-known xs ys = rw (some-known xs, some-known ys) refl
 
     few-known : (times : ℕ) (xs : List T) → words (few_rules times rule xs) ≡ terms (few_rules times known xs)
     unfolding few_rules
     few-known zero xs = apart-known xs
     few-known (suc times) xs =
-        let front = take (half_count xs) xs in
-        let back = drop (half_count xs) xs in
-        elim (nat_lt 8 (length xs)) as (λ b. words (if b then halves_rule rule front back ∷ (few_rules times rule front ++ few_rules times rule back) else apart_rules rule xs)
-        ≡ terms (if b then halves_rule known front back ∷ (few_rules times known front ++ few_rules times known back) else apart_rules known xs)) [
+        let front = take (half_length xs) xs in
+        let back = drop (half_length xs) xs in
+        elim (nat_lt 8 (length xs)) as (λ b. words
+        (if b then halves_rule rule front back ∷ (few_rules times rule front ++ few_rules times rule back) else apart_rules rule xs)
+        ≡ terms (if b then halves_rule known front back ∷ (few_rules times known front ++ few_rules times known back) else
+        apart_rules known xs)) [
           | true ↦ ap (λ f. f ∷ words (few_rules times rule front ++ few_rules times rule back)) (halves-known front back)
               ∙ ap (λ fs. term_formula path condition table (halves_rule known front back) ∷ fs)
-              (both-append (few_rules times rule front) (few_rules times rule back) (few_rules times known front) (few_rules times known back) (few-known times front) (few-known times back))
+              (both-append (few_rules times rule front) (few_rules times rule back) (few_rules times known front)
+              (few_rules times known back) (few-known times front) (few-known times back))
           | false ↦ apart-known xs
         ]
 
@@ -116,21 +111,26 @@ module _ (path : Text → Text → Statement) (condition : Text → Condition �
 
   -- and for a requirement's specs
   pub choice-known : (problem : Problem) (name : Text) (row : RequireRow)
-      → choice_said path table (world_of problem) name row ≡ term_formula path condition table (choice_rule problem (names_for table) name row)
+      → choice_said path table (world_of problem) name row ≡ term_formula path condition table
+      (choice_rule problem (names_for table) name row)
   choice-known problem name row = choice-known-cases row.one_of
     where
-      choice-known-cases : (b : Bool) → (if b then rule_said path table (just_one (holds_rule (world_of problem) (names_for table) name) row.specs)
+      choice-known-cases : (b : Bool)
+          → (if b then rule_said path table (just_one (holds_rule (world_of problem) (names_for table) name) row.specs)
           else rule_said path table (some (holds_rule (world_of problem) (names_for table) name) row.specs))
-          ≡ in_words (term_said path condition table) (if b then just_one (λ spec. known_rule (holds_rule (world_of problem) (names_for table) name spec)) row.specs
+          ≡ in_words (term_said path condition table)
+          (if b then just_one (λ spec. known_rule (holds_rule (world_of problem) (names_for table) name spec)) row.specs
           else some (λ spec. known_rule (holds_rule (world_of problem) (names_for table) name spec)) row.specs)
       choice-known-cases true = one-known (holds_rule (world_of problem) (names_for table) name) row.specs
       choice-known-cases false = some-known (holds_rule (world_of problem) (names_for table) name) row.specs
 
 module _ (path : Text → Text → Statement) (table : Table) (world : World) (name : Text) (row : RequireRow) where
   -- a requirement of one
-  pub chosen-one : row.one_of ≡ true → rule_said path table (just_one (holds_rule world (names_for table) name) row.specs) ≡ choice_said path table world name row
+  pub chosen-one : row.one_of ≡ true → rule_said path table (just_one (holds_rule world (names_for table) name) row.specs)
+      ≡ choice_said path table world name row
   chosen-one is = rw is refl
 
   -- a requirement of some
-  pub chosen-some : row.one_of ≡ false → rule_said path table (some (holds_rule world (names_for table) name) row.specs) ≡ choice_said path table world name row
+  pub chosen-some : row.one_of ≡ false → rule_said path table (some (holds_rule world (names_for table) name) row.specs)
+      ≡ choice_said path table world name row
   chosen-some is = rw is refl

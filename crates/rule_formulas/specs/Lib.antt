@@ -2,4 +2,5 @@
 pub mod Paths
 pub mod Terms
 pub mod Governing
+pub mod Asking
 pub mod OfWordFormulas

@@ -1,14 +1,11 @@
 -- Formulas of rules over the conditions of a problem.
 use Rattle.std.specs.Prelude.{ℕ, Bool, true, List, [], ◌∷◌, Option, if◌then◌else◌}
-use Rattle.std.specs.Str.{bytes_eq}
 use Rattle.clause_formulas.specs.Statements.{Statement, never, any_statement, opposite}
 use Rattle.clause_formulas.specs.Rules.{Proposition}
 use Rattle.spec_grammar.specs.declared.part.Spec.{Spec}
-use Rattle.graph_core.specs.Graphs.{Text}
+use Rattle.graph_core.specs.Graphs.{Text, no_kinds}
 use Rattle.graph_core.specs.declared.node.Kinds.{Kinds}
-use Rattle.condition_rules.specs.Words.{is_one_text}
 use Rattle.condition_rules.specs.Worlds.{World}
-use Rattle.virtuals.specs.Virtuals.{is_virtual}
 use Rattle.recipe_data.specs.OfSpecGrammar.Condition.{Condition}
 use Rattle.recipe_data.specs.declared.recipe.RequireRow.{RequireRow}
 use Rattle.literal_table.specs.Tables.{Table}
@@ -20,7 +17,6 @@ use Rattle.graph_formulas.specs.Parts.{holds_rule}
 use Rattle.graph_formulas.specs.Words.{names_for, rule_said}
 use Rattle.graph_formulas.specs.Terms.{Term}
 use Rattle.graph_formulas.specs.Directives.{root_rule, requirement_rule}
-use Rattle.graph_formulas.specs.Edges.{no_kinds}
 use Rattle.graph_formulas.specs.Demands.{demand_rule}
 use Rattle.graph_formulas.specs.Laws.{has_name, term_formula}
 use Rattle.word_formulas.specs.Builders.{no_paths}
@@ -47,10 +43,6 @@ has_of kind.Build = λ kinds. kinds.build
 has_of kind.Link = λ kinds. kinds.link
 has_of kind.Run = λ kinds. kinds.run
 
--- the name is that of the child, or a virtual that it may provide
-abbrev pub is_asked : World → (Text → List Text) → Text → Text → Bool
-is_asked world packages child asked = if is_virtual world.recipes asked then is_one_text (packages asked) child else bytes_eq asked child
-
 -- ---- specs
 
 module _ (path : Text → Text → Statement) (table : Table) where
@@ -74,8 +66,10 @@ directives_said path condition problem table name number =
     term_formula path condition table (demand_rule problem (names_for table) (has_name table) (demand.Directive name number))
 
 -- what the settings ask of a package, where they do
-abbrev pub required_said : (Text → Text → Statement) → (Text → Condition → Statement) → Problem → Table → Text → Option RequireRow → Statement
-required_said path condition problem table name o = term_formula path condition table (where_written o (requirement_rule problem (names_for table) name))
+abbrev pub required_said : (Text → Text → Statement) → (Text → Condition → Statement) → Problem → Table → Text
+    → Option RequireRow → Statement
+required_said path condition problem table name o =
+    term_formula path condition table (where_written o (requirement_rule problem (names_for table) name))
 
 -- the requirement of the settings of a package at a place
 abbrev pub setting_said : (Text → Text → Statement) → (Text → Condition → Statement) → Problem → Table → Text → ℕ → Statement

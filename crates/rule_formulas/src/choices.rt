@@ -200,7 +200,8 @@ fn few_formula(
 ) -> Result<Formula, AllocError>
     ensures { IfOk result (λ formula. formula ≡ all_statements
         (map (rule_said (path_by table.now paths.now) table.now)
-        (few_rules (length specs.now / 8) (holds_rule world.now (names_for table.now) name.now) specs.now))) }
+        (few_rules (length specs.now / 8) (holds_rule world.now (names_for table.now) name.now)
+        specs.now))) }
 {
     let mut parts = Vec::new(alloc);
     push_few(

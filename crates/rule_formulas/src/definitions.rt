@@ -9,12 +9,12 @@ use std::marker::Model;
 
 /// The definitions of variants in the recipe of a name, found by the variants; seen as the problem and the name.
 #[derive(Drop)]
-pub(crate) struct Definitions<'a> {
+pub(crate) struct PackageDefinitions<'a> {
     problem: &'a Problem,
     found: condition_rules::Definitions<'a>,
 }
 
-impl<'a> Model for Definitions<'a> {
+impl<'a> Model for PackageDefinitions<'a> {
     ghost use Rattle.std.specs.Prelude.{◌≡◌};
     ghost use Rattle.graph_core.specs.Graphs.{Text};
     ghost use Rattle.problem.specs.Problems.{Problem, world_of};
@@ -26,17 +26,17 @@ impl<'a> Model for Definitions<'a> {
     ghost invariant = { λ definitions. definitions.found.0 ≡ world_of definitions.problem.now };
 }
 
-impl<'a> Definitions<'a> {
+impl<'a> PackageDefinitions<'a> {
     /// Takes n log n comparisons for n definitions.
     pub(crate) fn new(
         alloc: Global,
         problem: &'a Problem,
         name: &'a str,
-    ) -> Result<Definitions<'a>, AllocError>
+    ) -> Result<PackageDefinitions<'a>, AllocError>
         ensures { IfOk result (λ definitions. definitions ≡ (problem.now, name.now)) }
     {
         let found = condition_rules::Definitions::new(alloc, problem.world(), name)?;
-        Ok(Definitions { problem, found })
+        Ok(PackageDefinitions { problem, found })
     }
 
     pub(crate) fn name(&self) -> &'a str

@@ -12,14 +12,13 @@ ghost use Rattle.rule_formulas.specs.Terms.{choice_said};
 
 use crate::choices::{one_formula, some_formula};
 use crate::holds_formula;
-use crate::loops::each_where;
 use clause_formulas::Formula;
 use graph_levels::PathLits;
 use literal_table::LiteralTable;
 use problem::{Problem, conflicts_at, depends_at, requirements_at};
 use recipe_data::{ConflictRow, DependRow, RequireRow};
 use std::alloc::{AllocError, Global};
-use word_formulas::{MetConditions, constraint_formula, edge_formula};
+use word_formulas::{MetConditions, constraint_formula, each_where, edge_formula};
 
 /// Where the condition of the row is met, its edge is there, and the node that it asks for suits
 /// it.
@@ -75,7 +74,8 @@ fn choice_formula(
     row: &RequireRow,
 ) -> Result<Formula, AllocError>
     ensures { IfOk result (λ formula. formula
-        ≡ choice_said (path_by table.now paths.now) table.now (world_of problem.now) name.now row.now) }
+        ≡ choice_said (path_by table.now paths.now) table.now (world_of problem.now)
+        name.now row.now) }
 {
     let world = problem.world();
     if row.one_of {

@@ -1,27 +1,23 @@
 //! Formulas of edges that none asks for.
-ghost use Rattle.std.specs.Prelude.{◌≡◌, ◌&&◌, filter, IfOk};
-ghost use Rattle.std.specs.List.{list_any};
+ghost use Rattle.std.specs.Prelude.{◌≡◌, map, filter, IfOk};
 ghost use Rattle.std.specs.Str.{bytes_eq};
-ghost use Rattle.problem.specs.Problems.{depends_at};
-ghost use Rattle.graph_formulas.specs.Lists.{some};
+ghost use Rattle.clause_formulas.specs.Statements.{all_statements};
 ghost use Rattle.graph_formulas.specs.Words.{names_for};
-ghost use Rattle.graph_formulas.specs.Edges.{asks_rule, may_ask, kind_rule, extra_edge_rule, extra_edges_rule};
+ghost use Rattle.graph_formulas.specs.Edges.{asks_rule, extra_edges_rule};
 ghost use Rattle.graph_formulas.specs.Laws.{virtuals_on};
 ghost use Rattle.literal_table.specs.Tables.{children_of};
-ghost use Rattle.rule_formulas.specs.Terms.{plain_term, kinds_of, has_of, is_asked};
+ghost use Rattle.rule_formulas.specs.Asking.{may_name_as, asking_said, kind_said, extra_edge_said};
+ghost use Rattle.rule_formulas.specs.Terms.{plain_term, kinds_of, has_of};
 
+use crate::asking_rows::{AskingRow, asking_rows};
 use crate::extra_virtuals::virtuals_formula;
-use crate::loops::{each_where, some_where};
 use clause_formulas::Formula;
-use clause_store::Lit;
-use condition_rules::World;
 use graph_core::Kinds;
 use literal_table::{EdgeLits, LiteralTable};
-use plain_data::Word;
-use problem::{Problem, depends_at};
+use problem::Problem;
 use recipe_data::DependRow;
 use std::alloc::{AllocError, Global};
-use word_formulas::{MetConditions, asks_formula, has_edge};
+use word_formulas::{MetConditions, asks_formula, each_where, has_edge, some_where};
 
 /// What an edge is for.
 #[derive(Clone, Copy)]
@@ -64,46 +60,11 @@ fn has(kind: EdgeKind, kinds: &Kinds) -> bool
     }
 }
 
-/// The name is one of these choices.
-pub(crate) fn offers(choices: &[(Word, Lit)], name: &str) -> bool
-    ensures { result ≡ list_any (λ choice. bytes_eq name.now choice.0) choices.now }
+/// The row has the kind, and may ask for this child, by its name or by a virtual.
+fn may_name_as(kind: EdgeKind, child: &str, asking: &AskingRow) -> bool
+    ensures { result ≡ may_name_as kind child.now asking.now }
 {
-    choices.iter().any(|choice| name == choice.0.as_str())
-}
-
-/// The name is that of the child, or a virtual that it may provide.
-fn is_asked(world: &World, table: &LiteralTable, child: &str, asked: &Word) -> bool
-    ensures { result ≡ is_asked world.now (names_for table.now) child.now asked.now }
-{
-    if world.is_virtual(asked.as_str()) {
-        offers(table.packages(asked.as_str()), child)
-    } else {
-        asked.as_str() == child
-    }
-}
-
-/// The row may ask for this child, by its name or by a virtual.
-fn may_ask(problem: &Problem, table: &LiteralTable, child: &str, row: &DependRow) -> bool
-    ensures { result ≡ may_ask problem.now (names_for table.now) child.now row.now }
-{
-    let world = problem.world();
-    match &row.part.name {
-        Some(asked) => is_asked(&world, table, child, asked),
-        None => false,
-    }
-}
-
-fn may_ask_as(
-    problem: &Problem,
-    table: &LiteralTable,
-    kind: EdgeKind,
-    child: &str,
-    row: &DependRow,
-) -> bool
-    ensures { result
-        ≡ (has_of kind row.now.kinds && may_ask problem.now (names_for table.now) child.now row.now) }
-{
-    has(kind, &row.kinds) && may_ask(problem, table, child, row)
+    has(kind, &asking.row().kinds) && asking.may_name(child)
 }
 
 /// The condition of the row is met, and it asks for this child.
@@ -129,20 +90,19 @@ fn asking_formula<C: MetConditions>(
     problem: &Problem,
     table: &LiteralTable,
     conditions: &C,
+    rows: &[AskingRow],
     kind: EdgeKind,
     name: &str,
     child: &str,
 ) -> Result<Formula, AllocError>
-    ensures { IfOk result (λ formula. formula ≡ plain_term table.now (C.condition_of conditions.now)
-        (some (asks_rule problem.now (names_for table.now) name.now child.now)
-        (filter (λ row. has_of kind row.kinds && may_ask problem.now (names_for table.now) child.now row)
-        (depends_at problem.now name.now)))) }
+    ensures { IfOk result (λ formula. formula ≡ asking_said problem.now table.now
+        (C.condition_of conditions.now) rows.now kind name.now child.now) }
 {
     some_where(
         alloc,
-        depends_at(problem, name),
-        |row| may_ask_as(problem, table, kind, child, row),
-        |row| row_formula(alloc, problem, table, conditions, name, child, row),
+        rows,
+        |asking| may_name_as(kind, child, asking),
+        |asking| row_formula(alloc, problem, table, conditions, name, child, asking.row()),
     )
 }
 
@@ -152,16 +112,17 @@ fn kind_formula<C: MetConditions>(
     problem: &Problem,
     table: &LiteralTable,
     conditions: &C,
+    rows: &[AskingRow],
     kind: EdgeKind,
     name: &str,
     child: &str,
 ) -> Result<Formula, AllocError>
-    ensures { IfOk result (λ formula. formula ≡ plain_term table.now (C.condition_of conditions.now)
-        (kind_rule problem.now (names_for table.now) (kinds_of kind) (has_of kind) name.now child.now)) }
+    ensures { IfOk result (λ formula. formula ≡ kind_said problem.now table.now
+        (C.condition_of conditions.now) rows.now kind name.now child.now) }
 {
     let kinds = kinds_of(kind);
     let edge = has_edge(alloc, table, name, child, &kinds)?;
-    let asked = asking_formula(alloc, problem, table, conditions, kind, name, child)?;
+    let asked = asking_formula(alloc, problem, table, conditions, rows, kind, name, child)?;
     Formula::implies(alloc, edge, asked)
 }
 
@@ -171,18 +132,19 @@ fn extra_edge_formula<C: MetConditions>(
     problem: &Problem,
     table: &LiteralTable,
     conditions: &C,
+    rows: &[AskingRow],
     name: &str,
     child: &str,
 ) -> Result<Formula, AllocError>
-    ensures { IfOk result (λ formula. formula ≡ plain_term table.now (C.condition_of conditions.now)
-        (extra_edge_rule problem.now (names_for table.now) (virtuals_on table.now name.now child.now)
-        name.now child.now)) }
+    ensures { IfOk result (λ formula. formula ≡ extra_edge_said problem.now table.now
+        (C.condition_of conditions.now) rows.now name.now child.now) }
 {
     let build = kind_formula(
         alloc,
         problem,
         table,
         conditions,
+        rows,
         EdgeKind::Build,
         name,
         child,
@@ -192,6 +154,7 @@ fn extra_edge_formula<C: MetConditions>(
         problem,
         table,
         conditions,
+        rows,
         EdgeKind::Link,
         name,
         child,
@@ -201,6 +164,7 @@ fn extra_edge_formula<C: MetConditions>(
         problem,
         table,
         conditions,
+        rows,
         EdgeKind::Run,
         name,
         child,
@@ -217,6 +181,35 @@ fn leaves(edge: &EdgeLits, name: &str) -> bool
     edge.parent.as_str() == name
 }
 
+/// No edge from the name has a kind or a virtual that none of these rows asks for.
+fn edges_formula<C: MetConditions>(
+    alloc: Global,
+    problem: &Problem,
+    table: &LiteralTable,
+    conditions: &C,
+    rows: &[AskingRow],
+    name: &str,
+) -> Result<Formula, AllocError>
+    ensures { IfOk result (λ formula. formula
+        ≡ all_statements (map (extra_edge_said problem.now table.now
+        (C.condition_of conditions.now) rows.now name.now) (children_of table.now name.now))) }
+{
+    each_where(
+        alloc,
+        table.edges(),
+        |edge| leaves(edge, name),
+        |edge| extra_edge_formula(
+            alloc,
+            problem,
+            table,
+            conditions,
+            rows,
+            name,
+            edge.child.as_str(),
+        ),
+    )
+}
+
 /// No edge from the name has a kind or a virtual that none asks for.
 pub fn extra_edges_formula<C: MetConditions>(
     alloc: Global,
@@ -226,12 +219,9 @@ pub fn extra_edges_formula<C: MetConditions>(
     name: &str,
 ) -> Result<Formula, AllocError>
     ensures { IfOk result (λ formula. formula ≡ plain_term table.now (C.condition_of conditions.now)
-        (extra_edges_rule problem.now (names_for table.now) (virtuals_on table.now name.now) (children_of table.now name.now) name.now)) }
+        (extra_edges_rule problem.now (names_for table.now) (virtuals_on table.now name.now)
+        (children_of table.now name.now) name.now)) }
 {
-    each_where(
-        alloc,
-        table.edges(),
-        |edge| leaves(edge, name),
-        |edge| extra_edge_formula(alloc, problem, table, conditions, name, edge.child.as_str()),
-    )
+    let rows = asking_rows(alloc, problem, table, name)?;
+    edges_formula(alloc, problem, table, conditions, rows.as_slice(), name)
 }

@@ -11,7 +11,6 @@ ghost use Rattle.graph_formulas.specs.Edges.{names_virtual, virtual_rule};
 ghost use Rattle.graph_formulas.specs.Laws.{virtuals_on};
 ghost use Rattle.rule_formulas.specs.Terms.{plain_term};
 
-use crate::loops::some_where;
 use clause_formulas::Formula;
 use clause_store::Lit;
 use literal_table::LiteralTable;
@@ -19,7 +18,7 @@ use plain_data::Word;
 use problem::{Problem, depends_at};
 use recipe_data::DependRow;
 use std::alloc::{AllocError, Global};
-use word_formulas::{MetConditions, each, has_virtual, provides_as};
+use word_formulas::{MetConditions, each, has_virtual, provides_as, some_where};
 
 fn names(row: &DependRow, name: &str) -> bool
     ensures { result ≡ is_some_and row.now.part.name (bytes_eq name.now) }

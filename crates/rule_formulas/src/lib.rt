@@ -10,6 +10,7 @@
 //! What it must not know: where a formula is used, and what gives a condition its formula.
 #![tactic(auto)]
 
+mod asking_rows;
 mod below;
 mod choices;
 mod definitions;
@@ -18,7 +19,6 @@ mod directives;
 mod extra_edges;
 mod extra_virtuals;
 mod holds;
-mod loops;
 mod theorems;
 mod together;
 mod used;

@@ -26,7 +26,8 @@ pub fn term_laws()
         (table : Table) (may : Text × Text → Text → Bool) (names : List Text) (virtual : Text)
         → term_formula path condition table
         (of_provider (names_for table) (used_rule may names) virtual)
-        ≡ plain_term table no_conditions (of_provider (names_for table) (used_rule may names) virtual) }
+        ≡ plain_term table no_conditions
+        (of_provider (names_for table) (used_rule may names) virtual) }
     ensures together { (path : Text → Text → Statement) (condition : Text → Condition → Statement)
         (table : Table) (problem : Problem) (virtual : Text)
         → term_formula path condition table

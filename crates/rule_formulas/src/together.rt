@@ -11,7 +11,6 @@ ghost use Rattle.graph_formulas.specs.Together.{no_other_rule, each_name_rule, b
 ghost use Rattle.graph_formulas.specs.Words.{names_for};
 ghost use Rattle.rule_formulas.specs.Terms.{plain_term, no_conditions};
 
-use crate::loops::each_where;
 use clause_formulas::Formula;
 use clause_store::Lit;
 use literal_table::LiteralTable;
@@ -19,7 +18,7 @@ use plain_data::Word;
 use problem::{Problem, provides_at};
 use recipe_data::ProvideRow;
 use std::alloc::{AllocError, Global};
-use word_formulas::{each, given, provide_row_formula, provider_formula};
+use word_formulas::{each, each_where, given, provide_row_formula, provider_formula};
 
 /// Where the package provides the virtual, it is this one.
 fn only_formula(
@@ -102,7 +101,8 @@ fn rows_together(
 ) -> Result<Formula, AllocError>
     ensures { IfOk result (λ formula. formula ≡ plain_term table.now no_conditions
         (each_keeps (by_row_rule problem.now (names_for table.now) (virtual_name.now, provider.now))
-        (filter (λ row. bytes_eq row.name virtual_name.now) (provides_at problem.now provider.now)))) }
+        (filter (λ row. bytes_eq row.name virtual_name.now)
+        (provides_at problem.now provider.now)))) }
 {
     each_where(
         alloc,

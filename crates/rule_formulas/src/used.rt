@@ -9,14 +9,13 @@ ghost use Rattle.graph_formulas.specs.Words.{names_for};
 ghost use Rattle.literal_table.specs.Tables.{table_names};
 ghost use Rattle.rule_formulas.specs.Terms.{plain_term, no_conditions};
 
-use crate::extra_edges::offers;
-use crate::loops::some_where;
+use crate::asking_rows::offers;
 use clause_formulas::Formula;
 use clause_store::Lit;
 use literal_table::LiteralTable;
 use plain_data::Word;
 use std::alloc::{AllocError, Global};
-use word_formulas::{each, has_virtual, provider_formula};
+use word_formulas::{each, has_virtual, provider_formula, some_where};
 
 /// An edge from the name to the provider may name the virtual.
 fn may_use(table: &LiteralTable, virtual_name: &Word, provider: &Word, name: &Word) -> bool

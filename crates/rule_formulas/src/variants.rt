@@ -6,7 +6,7 @@ ghost use Rattle.graph_formulas.specs.Laws.{variants_of};
 ghost use Rattle.rule_formulas.specs.Terms.{plain_term};
 ghost use Rattle.rule_formulas.specs.Governing.{met_said, governs_said, last_parts, last_said};
 
-use crate::definitions::Definitions;
+use crate::definitions::PackageDefinitions;
 use clause_formulas::Formula;
 use clause_store::Lit;
 use literal_table::LiteralTable;
@@ -147,7 +147,7 @@ fn last_formula<C: MetConditions>(
 /// The variant is there just where it has a governing definition, which allows its values.
 fn variant_formula<C: MetConditions>(
     alloc: Global,
-    definitions: &Definitions,
+    definitions: &PackageDefinitions,
     table: &LiteralTable,
     conditions: &C,
     variant: &str,
@@ -179,7 +179,7 @@ fn all_variants<C: MetConditions>(
     ensures { IfOk result (λ formula. formula ≡ plain_term table.now (C.condition_of conditions.now)
         (variants_rule problem.now (map (λ v. v.0) variants.now) name.now)) }
 {
-    let definitions = Definitions::new(alloc, problem, name)?;
+    let definitions = PackageDefinitions::new(alloc, problem, name)?;
     each(alloc, variants, |v| {
         variant_formula(alloc, &definitions, table, conditions, v.0.as_str())
     })

@@ -83,7 +83,10 @@ newer_root = with_roots (at (Range (Some (codes "2")) None ∷ []) (named (codes
 
 abbrev pub not_buildable : Problem
 not_buildable = record realistic {
-  settings = record realistic.settings { packages = record { name = codes "zlib"; versions = []; buildable = false; externals = []; require = [] } ∷ [] };
+  settings = record realistic.settings {
+    packages =
+        record { name = codes "zlib"; versions = []; buildable = false; externals = []; require = [] } ∷ [];
+  };
 }
 
 -- the settings ask this of a package
@@ -101,7 +104,8 @@ asking name one_of specs p = record p {
 }
 
 abbrev pub older_zlib_asked : Problem → Problem
-older_zlib_asked = asking (codes "zlib") false (spec (at (Range (Some (codes "1.2.13")) (Some (codes "1.2.13")) ∷ []) (empty_part None)) ∷ [])
+older_zlib_asked = asking (codes "zlib") false
+    (spec (at (Range (Some (codes "1.2.13")) (Some (codes "1.2.13")) ∷ []) (empty_part None)) ∷ [])
 
 abbrev pub newer_zlib_asked : Problem → Problem
 newer_zlib_asked = asking (codes "zlib") false (spec (at (Range (Some (codes "1.3")) None ∷ []) (empty_part None)) ∷ [])

@@ -135,7 +135,8 @@ with_run = record (problem
     (record (recipe (codes "t") (version 0 (codes "1") ∷ [])) { depends = depends_on 1 (named (codes "u")) to_run always ∷ [] }
     ∷ recipe (codes "u") (version 0 (codes "2.0") ∷ version 1 (codes "1.0") ∷ []) ∷ [])
     (spec (named (codes "t")) ∷ [])) {
-      database = kept (codes "hu") (codes "u") (codes "1.0") [] ∷ kept (codes "ht") (codes "t") (codes "1") (dependency (codes "hu") to_run [] ∷ [])
+      database = kept (codes "hu") (codes "u") (codes "1.0") [] ∷ kept (codes "ht") (codes "t") (codes "1")
+          (dependency (codes "hu") to_run [] ∷ [])
           ∷ [];
     }
 

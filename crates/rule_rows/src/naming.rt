@@ -2,7 +2,7 @@
 ghost use Rattle.std.specs.Prelude.{◌≡◌, [], ◌∷◌, ◌++◌, codes, true};
 ghost use Rattle.graph_core.specs.Graphs.{is_graph};
 ghost use Rattle.graph_rules.specs.Valid.{valid};
-ghost use Rattle.graph_rules.specs.Named.{named};
+ghost use Rattle.graph_rules.specs.Named.{named_graph};
 ghost use Rattle.graph_rules.specs.Verdict.{verdict};
 ghost use Rattle.graph_rules.specs.Costs.{vector};
 ghost use Rattle.graph_rules.specs.declared.rule.Rule.{Rule};
@@ -64,12 +64,12 @@ pub fn broken_names()
 /// The names that the first version of a lock file leaves out: those of nodes to build are found,
 /// and others stay as they are.
 pub fn named_rows()
-    ensures found { named realistic (hdf5_naming []) ≡ realistic_graph }
-    ensures replaced { named realistic name_not_asked_for ≡ realistic_graph }
-    ensures again { named realistic realistic_graph ≡ realistic_graph }
-    ensures silent { named (with_record mpi (codes "app")) (over_installed [] [])
+    ensures found { named_graph realistic (hdf5_naming []) ≡ realistic_graph }
+    ensures replaced { named_graph realistic name_not_asked_for ≡ realistic_graph }
+    ensures again { named_graph realistic realistic_graph ≡ realistic_graph }
+    ensures silent { named_graph (with_record mpi (codes "app")) (over_installed [] [])
         ≡ over_installed mpi [] }
-    ensures kept { named (with_record mpi (codes "app")) (over_installed [] mpi)
+    ensures kept { named_graph (with_record mpi (codes "app")) (over_installed [] mpi)
         ≡ over_installed mpi mpi }
-    ensures both { named (with_record mpi (codes "app")) (all_built [] []) ≡ all_built mpi mpi }
+    ensures both { named_graph (with_record mpi (codes "app")) (all_built [] []) ≡ all_built mpi mpi }
 {}

@@ -45,10 +45,6 @@ pub ok_not_err : {A B : Type 0} (x : A) (e : Refusal)
     → (let T : Type 0 = Result A Refusal in let a : T = Ok x in let b : T = Err e in a ≡ b) → B
 ok_not_err x e same = absurd cc
 
--- a refusal is one value
-pub err_same : {A : Type 0} (a b : Refusal) → (let T : Type 0 = Result A Refusal in let l : T = Err a in let r : T = Err b in l ≡ r) → a ≡ b
-err_same a b e = cc
-
 -- and so do two stages of which each has one answer
 pub one_then : {A B : Type 0} (first : Result A Refusal → Type 0) (next : A → Result B Refusal → Type 0) → IsOne first
     → ((x : A) → IsOne (next x)) → IsOne (Then first next)

@@ -1,5 +1,6 @@
 -- The answers of a run, and what a sink tells.
 use Rattle.std.specs.Prelude.{◌≡◌, ◌⊎◌, ℕ, List, Option}
+use Rattle.outside_desk.specs.Files.{and_said, SaysPart}
 use Rattle.run_answers.specs.declared.status.Status.{Status}
 use Rattle.run_answers.specs.declared.status.Status.TheVariants as statuses
 
@@ -31,3 +32,15 @@ IsAnsweredBy status result = (result ≡ status) ⊎ (result ≡ statuses.NoMemo
 -- what a sink tells of what was said, before and after
 abbrev pub Spoken : Type 0
 Spoken = Option (List ℕ) × Option (List ℕ)
+
+-- nothing was said
+abbrev pub IsSilent : Spoken → Type 0
+IsSilent said = said.1 ≡ said.0
+
+-- this was said, and nothing else
+abbrev pub Says : Spoken → List ℕ → Type 0
+Says said line = said.1 ≡ and_said said.0 line
+
+-- a front of this was said, and nothing behind it
+abbrev pub SaysFront : Spoken → List ℕ → Type 0
+SaysFront said line = SaysPart said.0 said.1 line

@@ -1,14 +1,14 @@
 -- What a call that only reads leaves of a desk.
 use Rattle.std.specs.Prelude.{◌≡◌, ℕ, Option, Result}
 use Rattle.outside_desk.specs.Causes.{Counts}
-use Rattle.outside_desk.specs.Files.{Files}
+use Rattle.outside_desk.specs.Files.{Files, StillTells}
 use Rattle.run_answers.specs.Stops.{EndsByInput, EndsInReadFault}
 use Rattle.run_answers.specs.declared.stop.ReadStop.{ReadStop}
 
--- no file changes and none is put; the count of faults rises where a device made the call fail, and is as it was where the call
--- ended by what was read. Of files, faults and puts it is what the desk tells before, and then after
+-- the desk tells the same files, or none any more, and none is put; the count of faults rises where a device made the call fail, and is as
+-- it was where the call ended by what was read. Of files, faults and puts it is what the desk tells before, and then after
 pub record Unchanged (before after : Option Files) (faults_before faults : ℕ) (puts_before puts : ℕ) (fails ends : Type 0) : Type 0 where
-  pub same : after ≡ before
+  pub same : StillTells before after
   pub cause : Counts faults_before faults fails
   pub steady : ends → faults ≡ faults_before
   pub put_faults : puts ≡ puts_before

@@ -38,7 +38,8 @@ fn root_rule_line(
     node: &str,
     number: u64,
 ) -> Result<String, AllocError>
-    ensures { IfOk result (λ line. string_bytes line ≡ lines.root_rule_line root rule node.now number) }
+    ensures { IfOk result (λ line. string_bytes line ≡ lines.root_rule_line root rule
+        node.now number) }
 {
     let rule = rule_name(rule);
     format!(in alloc; "refused: root {root}: graph {rule} {node} {number}\n")
@@ -60,7 +61,8 @@ fn root_certificate_line(
     number: u64,
     fault: LineFault,
 ) -> Result<String, AllocError>
-    ensures { IfOk result (λ line. string_bytes line ≡ lines.root_certificate_line root number fault) }
+    ensures { IfOk result (λ line. string_bytes line ≡ lines.root_certificate_line root
+        number fault) }
 {
     let fault = certificate_text(alloc, number, fault)?;
     format!(in alloc; "refused: root {root}: {fault}\n")

@@ -11,7 +11,6 @@ use Rattle.outside_desk.specs.Files.{Files}
 use Rattle.outside_desk.specs.Listing.{name_below, with_name, with_names, names_in}
 use Rattle.variant_values.specs.Texts.{byte_cmp, IsInByteOrder}
 use Rattle.variant_values.proofs.Keys.{IsStrictlySortedBy-insert_key}
-use Rattle.run_answers.specs.Stages.{◌>>=◌}
 use Rattle.run_answers.specs.declared.refusal.Refusal.{Refusal}
 use Rattle.run_answers.specs.declared.refusal.Refusal.TheVariants as refusals
 use Rattle.run_answers.specs.declared.stop.ReadStop.{ReadStop}

@@ -4,6 +4,7 @@ pub mod OneDatabase
 pub mod Ends
 pub mod InOrder
 pub mod Counted
+pub mod Entries
 pub mod Files
 pub mod Named
 pub mod Once

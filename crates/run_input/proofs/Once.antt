@@ -96,7 +96,8 @@ one_condition laws text =
 
 one_sought : ReadsOnce → (text : List ℕ) (stock : Stock) → IsOne (Sought text stock)
 one_sought laws text stock =
-    one_then (ConditionOf text) (λ spec. Is (Ok (query_of stock spec))) (one_condition laws text) (λ spec. one_is (Ok (query_of stock spec)))
+    one_then (ConditionOf text) (λ spec. Is (Ok (query_of stock spec))) (one_condition laws text)
+    (λ spec. one_is (Ok (query_of stock spec)))
 
 module _ (one_settings : (files : Files) (path : List ℕ) → IsOne (SettingsAt files path))
     (one_database : (files : Files) (path : List ℕ) → IsOne (DatabaseAt files path)) where

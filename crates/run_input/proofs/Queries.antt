@@ -27,7 +27,8 @@ pub posed_without : (recipes given_recipes : List Recipe) (settings given_settin
     (roots : List Spec) (result : Result Problem ReadStop) → given_recipes ≡ recipes → given_settings ≡ settings → given_records ≡ records
     → roots ≡ [] → Gives result (Is (posed_by given_recipes given_settings given_records roots))
     → Gives result (Is (Ok (problem_of recipes settings records [])))
-posed_without recipes given_recipes settings given_settings records given_records roots result same_recipes same_settings same_records none read =
+posed_without recipes given_recipes settings given_settings records given_records roots result same_recipes same_settings
+    same_records none read =
     let is : posed_by given_recipes given_settings given_records roots ≡ Ok (problem_of recipes settings records []) =
     ap (λ (r : List Recipe). posed_by r given_settings given_records roots) same_recipes
     ∙ ap (λ (s : Settings). posed_by recipes s given_records roots) same_settings
@@ -42,7 +43,8 @@ pub query_read : (stock : Stock) (spec : Spec) (problem : Problem)
     → (let query : Query = record { problem = problem; spec = spec } in Gives {T = Query} (Ok query) (Is (Ok (query_of stock spec))))
 query_read stock spec problem read =
     let same = ok_same problem (problem_of stock.recipes stock.settings stock.records []) read in
-    ap (λ (p : Problem). let query : Query = record { problem = p; spec = spec } in let given : Result Query Refusal = Ok query in given) same
+    ap (λ (p : Problem). let query : Query = record { problem = p; spec = spec } in let given : Result Query Refusal =
+    Ok query in given) same
 
 -- memory ran out
 pub query_stop : (stock : Stock) (spec : Spec) (stop : ReadStop)

@@ -17,7 +17,8 @@ use Rattle.settings_reader.specs.Values as settings_values
 use Rattle.settings_reader.specs.Values.{are_valued}
 use Rattle.file_limits.specs.Values as record_values
 
-all_weaker : {X : Type 0} (p q : X → Bool) → ((x : X) → p x ≡ true → q x ≡ true) → (xs : List X) → list_all p xs ≡ true → list_all q xs ≡ true
+all_weaker : {X : Type 0} (p q : X → Bool) → ((x : X) → p x ≡ true → q x ≡ true) → (xs : List X) → list_all p xs ≡ true
+    → list_all q xs ≡ true
 all_weaker p q weaker xs all =
     list_all-from_AllPass q xs (All-weaker (λ x. p x ≡ true) (λ x. q x ≡ true) weaker xs (AllPass-from_list_all p xs all))
 

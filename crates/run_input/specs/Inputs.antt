@@ -7,7 +7,7 @@ use Rattle.recipe_data.specs.declared.recipe.Recipe.{Recipe}
 use Rattle.virtuals.specs.Virtuals.{clash}
 use Rattle.problem.specs.Problems.{Problem, problem_of}
 use Rattle.problem.specs.Roots.{roots_fault}
-use Rattle.problem.specs.Limits.{is_within_limits}
+use Rattle.problem.specs.Limits.{is_within_limits, most_names}
 use Rattle.possible_closure.specs.Closures.{closure_of}
 use Rattle.table_plan.specs.Kept.{has_right_values}
 use Rattle.problem.specs.declared.fault.ProblemFault.{ProblemFault}
@@ -22,7 +22,7 @@ use Rattle.run_input.specs.Installed.{DatabaseAt}
 use Rattle.run_input.specs.Named.{IsFilePath}
 use Rattle.reuse_db.specs.declared.record.Record.{Record}
 use Rattle.run_input.specs.Sites.{SettingsAt}
-use Rattle.run_input.specs.Paths.{IsReadPath}
+use Rattle.run_input.specs.Order.{IsBehind, IsReadPath}
 use Rattle.run_input.specs.Sources.{Source, pile_of}
 use Rattle.run_input.specs.Recipes.{recipes_of}
 use Rattle.run_input.specs.Roots.{RootsOf, ConditionOf}
@@ -65,13 +65,13 @@ input_of problem = record { problem = problem; closure = closure_of problem }
 -- what each input that is read has: the names of its problem, 1,024 at most, values for the variants of externals and records, and
 -- counts within the limits
 abbrev pub IsPosed : Input → Type 0
-IsPosed input = (input.closure ≡ closure_of input.problem) × (length (closure_of input.problem) ≤ 1024)
+IsPosed input = (input.closure ≡ closure_of input.problem) × (length (closure_of input.problem) ≤ most_names)
     × (has_right_values input.problem ≡ true) × (is_within_limits input.problem ≡ true)
 
 -- there are at most 1,024 such names
 unfoldable pub closed_of : Problem → Result Input Refusal
 closed_of problem = do
-  few ← check refusals.TooManyPackages (nat_le (length (closure_of problem)) 1024)
+  few ← check refusals.TooManyPackages (nat_le (length (closure_of problem)) most_names)
   Ok (input_of problem)
 
 -- what recipes, settings, records and roots are together
@@ -119,12 +119,23 @@ Seeks files command = Then (StockAt files command) (Sought command.spec)
 
 -- ---- faults of devices
 
--- what is read: the settings, the folder of the packages, the recipes of the names in it, and the database
+-- what is read behind the settings: the folder of the packages and the recipes of the names in it; and behind these the database
+abbrev pub IsPathBehind : Option Files → Command → List ℕ → Type 0
+IsPathBehind told command path =
+    IsReadPath told command.repo path
+    ⊎ (IsBehind told (λ files. InRepository files command.repo) × IsFilePath command.database path)
+
+-- what is read: the settings, and what is behind them
 abbrev pub IsInputPath : Option Files → Command → List ℕ → Type 0
 IsInputPath told command path =
-    IsFilePath command.settings path ⊎ IsReadPath told command.repo path ⊎ IsFilePath command.database path
+    IsFilePath command.settings path
+    ⊎ (IsBehind told (λ files. SettingsAt files command.settings) × IsPathBehind told command path)
 
 -- a device fails only while such a path is read
+abbrev pub FailsBehind : {A : Type 0} → Option Files → Command → Result A ReadStop → Type 0
+FailsBehind told command (Err (reads.Fault path)) = IsPathBehind told command path
+FailsBehind told command other = Unit {0}
+
 abbrev pub FailsAtInput : {A : Type 0} → Option Files → Command → Result A ReadStop → Type 0
 FailsAtInput told command (Err (reads.Fault path)) = IsInputPath told command path
 FailsAtInput told command other = Unit {0}

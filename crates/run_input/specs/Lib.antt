@@ -4,6 +4,7 @@ pub mod Sites
 pub mod Installed
 pub mod Paths
 pub mod Sources
+pub mod Order
 pub mod Recipes
 pub mod Roots
 pub mod Inputs

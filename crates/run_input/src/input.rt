@@ -131,10 +131,11 @@ pub fn read_input<R: Threads + Sync, D: Desk>(
     desk: &mut D,
     command: &Command<'_>,
 ) -> Result<Input, ReadStop>
-    ensures read { IfSome (D.files desk.old) (λ files. Gives result (ReadsInput files command.now)) }
+    ensures read { IfSome (D.files desk.new)
+        (λ files. Gives result (ReadsInput files command.now)) }
     ensures roots { IfOk result (λ input. RootsOf command.now.spec (Ok input.problem.roots)) }
     ensures posed { IfOk result IsPosed }
-    ensures path { FailsAtInput (D.files desk.old) command.now result }
+    ensures path { FailsAtInput (D.files desk.new) command.now result }
     ensures only_reads { OnlyReads D.files D.faults D.put_faults desk.old desk.new result }
 {
     match read_stock(rt, alloc, desk, command) {

@@ -47,7 +47,7 @@ pub fn read_installed<D: Desk>(
     desk: &mut D,
     path: &str,
 ) -> Result<ReadRecords, ReadStop>
-    ensures read { IfSome (D.files desk.old) (λ files. Gives result (DatabaseAt files path.now)) }
+    ensures read { IfSome (D.files desk.new) (λ files. Gives result (DatabaseAt files path.now)) }
     ensures path { FailsThere path.now result }
     ensures only_reads { OnlyReads D.files D.faults D.put_faults desk.old desk.new result }
 {

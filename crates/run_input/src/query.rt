@@ -55,7 +55,8 @@ fn condition_of(alloc: Global, text: &str) -> Result<Spec, ReadStop>
 /// The problem of a stock without roots.
 #[tactic(auto, using(crate::proofs::Queries::posed_without))]
 fn without_roots(alloc: Global, stock: Stock) -> Result<Problem, ReadStop>
-    ensures read { Gives result (Is (Ok (problem_of stock.recipes stock.settings stock.records []))) }
+    ensures read { Gives result (Is
+        (Ok (problem_of stock.recipes stock.settings stock.records []))) }
     ensures no_fault { EndsInReadFault result → ⊥ }
 {
     let Stock {
@@ -111,9 +112,9 @@ pub fn read_query<R: Threads + Sync, D: Desk>(
     desk: &mut D,
     command: &Command<'_>,
 ) -> Result<Query, ReadStop>
-    ensures read { IfSome (D.files desk.old) (λ files. Gives result (Seeks files command.now)) }
+    ensures read { IfSome (D.files desk.new) (λ files. Gives result (Seeks files command.now)) }
     ensures condition { IfOk result (λ query. ConditionOf command.now.spec (Ok query.spec)) }
-    ensures path { FailsAtInput (D.files desk.old) command.now result }
+    ensures path { FailsAtInput (D.files desk.new) command.now result }
     ensures only_reads { OnlyReads D.files D.faults D.put_faults desk.old desk.new result }
 {
     match read_stock(rt, alloc, desk, command) {

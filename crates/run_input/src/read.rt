@@ -7,7 +7,8 @@ ghost use Rattle.variant_values.specs.Texts.{IsInByteOrder};
 ghost use Rattle.run_answers.specs.Stages.{Is};
 ghost use Rattle.run_answers.specs.Reads.{OnlyReads};
 ghost use Rattle.run_answers.specs.Stops.{Gives};
-ghost use Rattle.run_input.specs.Paths.{FailsAmong, FailsAtEntry, FailsInside};
+ghost use Rattle.run_input.specs.Order.{FailsAmong, FailsInside};
+ghost use Rattle.run_input.specs.Paths.{FailsAtEntry};
 ghost use Rattle.run_input.specs.Sources.{Leaves, names_of, no_files, recipe_file_at, with_entry, with_entries, pile_of};
 
 use crate::paths::{packages_path, recipe_path};
@@ -27,7 +28,7 @@ fn read_entry<D: Desk>(
     name: &str,
     sources: &mut Sources,
 ) -> Result<(), ReadStop>
-    ensures left { IfSome (D.files desk.old)
+    ensures left { IfSome (D.files desk.new)
         (λ files. Leaves (with_entry sources.old name.now (recipe_file_at files repo.now name.now))
         sources.new result) }
     ensures order { (names : List (List ℕ))
@@ -57,11 +58,11 @@ fn read_entries<D: Desk>(
     names: &[String],
 ) -> Result<Sources, ReadStop>
     requires { AreInOrder (map string_bytes names.now) }
-    ensures read { IfSome (D.files desk.old)
+    ensures read { IfSome (D.files desk.new)
         (λ files. Gives result
         (Is (with_entries files repo.now no_files (map string_bytes names.now)))) }
     ensures order { IfOk result (λ sources. IsInByteOrder (names_of sources)) }
-    ensures path { FailsAmong repo.now (map string_bytes names.now) result }
+    ensures path { FailsAmong (D.files desk.new) repo.now (map string_bytes names.now) result }
     ensures only_reads { OnlyReads D.files D.faults D.put_faults desk.old desk.new result }
 {
     let mut sources = Sources::new(alloc);
@@ -83,9 +84,9 @@ fn read_entries<D: Desk>(
 /// 256 MiB. `Fault` where the desk failed, with the path.
 #[tactic(auto, unfolding(crate::specs::Sources::pile_of))]
 pub fn read_sources<D: Desk>(alloc: Global, desk: &mut D, repo: &str) -> Result<Sources, ReadStop>
-    ensures read { IfSome (D.files desk.old) (λ files. Gives result (Is (pile_of files repo.now))) }
+    ensures read { IfSome (D.files desk.new) (λ files. Gives result (Is (pile_of files repo.now))) }
     ensures order { IfOk result (λ sources. IsInByteOrder (names_of sources)) }
-    ensures path { FailsInside (D.files desk.old) repo.now result }
+    ensures path { FailsInside (D.files desk.new) repo.now result }
     ensures only_reads { OnlyReads D.files D.faults D.put_faults desk.old desk.new result }
 {
     let folder = packages_path(alloc, repo)?;

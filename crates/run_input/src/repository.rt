@@ -7,7 +7,7 @@ ghost use Rattle.problem.specs.Limits.{are_few_rows};
 ghost use Rattle.virtuals.specs.Virtuals as virtuals;
 ghost use Rattle.run_answers.specs.Reads.{OnlyReads};
 ghost use Rattle.run_answers.specs.Stops.{Gives, EndsInReadFault};
-ghost use Rattle.run_input.specs.Paths.{FailsInside};
+ghost use Rattle.run_input.specs.Order.{FailsInside};
 ghost use Rattle.variant_values.specs.Texts.{IsInByteOrder};
 ghost use Rattle.run_input.specs.Sources.{bytes_in, names_of, source_of};
 ghost use Rattle.run_input.specs.Inputs.{OverSources, InRepository};
@@ -31,8 +31,8 @@ fn read_over<R: Threads + Sync>(
     ensures read { Gives result (OverSources (map source_of files.now)) }
     ensures right { IfOk result (λ recipes. list_all is_right_recipe recipes ≡ true) }
     ensures few_rows { IfOk result (λ recipes. are_few_rows recipes ≡ true) }
-    ensures names { IfOk result (λ recipes. map virtuals.recipe_name recipes ≡ map (λ source. source.0)
-        (map source_of files.now)) }
+    ensures names { IfOk result (λ recipes. map virtuals.recipe_name recipes
+        ≡ map (λ source. source.0) (map source_of files.now)) }
     ensures no_fault { EndsInReadFault result → ⊥ }
 {
     let recipes = recipes_of(rt, alloc, files)?;
@@ -65,8 +65,8 @@ pub fn read_repository<R: Threads + Sync, D: Desk>(
     desk: &mut D,
     repo: &str,
 ) -> Result<ReadRecipes, ReadStop>
-    ensures read { IfSome (D.files desk.old) (λ files. Gives result (InRepository files repo.now)) }
-    ensures path { FailsInside (D.files desk.old) repo.now result }
+    ensures read { IfSome (D.files desk.new) (λ files. Gives result (InRepository files repo.now)) }
+    ensures path { FailsInside (D.files desk.new) repo.now result }
     ensures only_reads { OnlyReads D.files D.faults D.put_faults desk.old desk.new result }
 {
     let sources = read_sources(alloc, desk, repo)?;

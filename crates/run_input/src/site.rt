@@ -42,7 +42,7 @@ fn settings_in(alloc: Global, bytes: &[u8]) -> Result<Settings, ReadStop>
 /// `MissingInput` where there is no such file, `SettingsTooLarge` beyond 16 MiB, `BadSettings` with the first
 /// fault of the text. `Fault` where the desk failed, with the path.
 pub fn read_site<D: Desk>(alloc: Global, desk: &mut D, path: &str) -> Result<ReadSettings, ReadStop>
-    ensures read { IfSome (D.files desk.old) (λ files. Gives result (SettingsAt files path.now)) }
+    ensures read { IfSome (D.files desk.new) (λ files. Gives result (SettingsAt files path.now)) }
     ensures path { FailsThere path.now result }
     ensures only_reads { OnlyReads D.files D.faults D.put_faults desk.old desk.new result }
 {

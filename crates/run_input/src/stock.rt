@@ -3,7 +3,8 @@
 ghost use Rattle.std.specs.Prelude.{IfSome};
 ghost use Rattle.run_answers.specs.Reads.{OnlyReads};
 ghost use Rattle.run_answers.specs.Stops.{Gives};
-ghost use Rattle.run_input.specs.Inputs.{Behind, OverSettings, StockAt, FailsAtInput};
+ghost use Rattle.run_input.specs.Inputs.{Behind, OverSettings, StockAt, FailsAtInput, FailsBehind};
+ghost use Rattle.run_input.specs.Named.{FailsThere};
 
 use crate::repository::read_repository;
 use crate::{Command, ReadRecipes, ReadRecords, ReadSettings, ReadStop, read_installed, read_site};
@@ -20,7 +21,7 @@ pub struct Stock {
 }
 
 /// The database, behind the others.
-#[tactic(auto, using(crate::proofs::Failing::of_database))]
+#[tactic(auto, using(crate::proofs::Failing::of_file))]
 fn read_behind<D: Desk>(
     alloc: Global,
     desk: &mut D,
@@ -28,9 +29,9 @@ fn read_behind<D: Desk>(
     settings: ReadSettings,
     recipes: ReadRecipes,
 ) -> Result<Stock, ReadStop>
-    ensures read { IfSome (D.files desk.old)
+    ensures read { IfSome (D.files desk.new)
         (λ files. Gives result (Behind files command.now settings recipes)) }
-    ensures path { FailsAtInput (D.files desk.old) command.now result }
+    ensures path { FailsThere command.now.database result }
     ensures only_reads { OnlyReads D.files D.faults D.put_faults desk.old desk.new result }
 {
     match read_installed(alloc, desk, command.database) {
@@ -52,9 +53,9 @@ fn read_over<R: Threads + Sync, D: Desk>(
     command: &Command<'_>,
     settings: ReadSettings,
 ) -> Result<Stock, ReadStop>
-    ensures read { IfSome (D.files desk.old)
+    ensures read { IfSome (D.files desk.new)
         (λ files. Gives result (OverSettings files command.now settings)) }
-    ensures path { FailsAtInput (D.files desk.old) command.now result }
+    ensures path { FailsBehind (D.files desk.new) command.now result }
     ensures only_reads { OnlyReads D.files D.faults D.put_faults desk.old desk.new result }
 {
     match read_repository(rt, alloc, desk, command.repo) {
@@ -76,8 +77,8 @@ pub(crate) fn read_stock<R: Threads + Sync, D: Desk>(
     desk: &mut D,
     command: &Command<'_>,
 ) -> Result<Stock, ReadStop>
-    ensures read { IfSome (D.files desk.old) (λ files. Gives result (StockAt files command.now)) }
-    ensures path { FailsAtInput (D.files desk.old) command.now result }
+    ensures read { IfSome (D.files desk.new) (λ files. Gives result (StockAt files command.now)) }
+    ensures path { FailsAtInput (D.files desk.new) command.now result }
     ensures only_reads { OnlyReads D.files D.faults D.put_faults desk.old desk.new result }
 {
     let settings = read_site(alloc, desk, command.settings)?;

@@ -11,13 +11,14 @@ use Rattle.spec_grammar.specs.declared.part.Spec.{Spec}
 use Rattle.root_graphs.specs.Each.{AreAnswers, IsSolvable}
 use Rattle.run_task.specs.Answer.{Answer}
 use Rattle.run_task.specs.Input.{Input}
-use Rattle.run_task.specs.Problems.{Problem, alone, apart}
+use Rattle.run_task.specs.Problems.{Problem, alone, each_alone}
 use Rattle.run_task.specs.Tasks.{IsReadyInput}
 use Rattle.run_task.proofs.OneRoot.{FewerNames, not_too_many, same_limits, same_values}
 use Rattle.run_output.specs.Evidence.{evidence}
 
 -- each can be solved where that of all roots can
-pub solvable : FewerNames → (whole : Input) (place : ℕ) (one : Problem) → IsReadyInput whole → slice_get (apart whole.problem) place ≡ Some one
+pub solvable : FewerNames → (whole : Input) (place : ℕ) (one : Problem) → IsReadyInput whole
+    → slice_get (each_alone whole.problem) place ≡ Some one
     → IsSolvable one
 solvable fewer whole place one ready is = record {
   few = not_too_many fewer whole.problem one place ready.1.1 is;
@@ -33,9 +34,11 @@ apart_more problems items more place one pushed so_far is =
     ∙ sym (take_more problems place one (slice_get_within problems place one is)
     ∙ ap (λ (p : Problem). take place problems ++ p ∷ []) (get_or_from_slice_get problems place one one is))
 
+-- one more problem that may be solved
 pub solvable_more : (items more : List Problem) (one : Problem) → more ≡ items ++ one ∷ [] → All IsSolvable items → IsSolvable one
     → All IsSolvable more
-solvable_more items more one pushed so_far here = subst (λ (ps : List Problem). All IsSolvable ps) (sym pushed) (All-push IsSolvable items one so_far here)
+solvable_more items more one pushed so_far here =
+    subst (λ (ps : List Problem). All IsSolvable ps) (sym pushed) (All-push IsSolvable items one so_far here)
 
 -- an answer within the budget of all is one within the root's own
 for_each : (whole : Problem) (budget : ℕ) (roots : List Spec) (found : List Answer) → budget ≡ whole.settings.conflict_budget
@@ -45,15 +48,18 @@ for_each whole budget [] (a ∷ found) is all = absurd all
 for_each whole budget (r ∷ roots) [] is all = absurd all
 for_each whole budget (r ∷ roots) (a ∷ found) is all = (rw is at all.0, for_each whole budget roots found is all.1)
 
-pub answers_of_all : (whole : Problem) (budget : ℕ) (problems : List Problem) (found : List Answer) → budget ≡ whole.settings.conflict_budget
-    → problems ≡ apart whole → AreAnswers budget problems found → AllZip evidence.answers (apart whole) found
+-- the answers that were found are those of each root by itself
+pub answers_of_all : (whole : Problem) (budget : ℕ) (problems : List Problem) (found : List Answer)
+    → budget ≡ whole.settings.conflict_budget
+    → problems ≡ each_alone whole → AreAnswers budget problems found → AllZip evidence.answers (each_alone whole) found
 answers_of_all whole budget problems found is same all = for_each whole budget whole.roots found is (rw same at all)
 
 -- the canonical texts of each root's problem are UTF-8
 abbrev HasText : Spec → Type 0
 HasText spec = IsUtf8 (spec_text spec)
 
-pub texts_of_all : (whole : Problem) (problems : List Problem) → problems ≡ apart whole → All HasText whole.roots
+-- so are those of each root by itself
+pub texts_of_all : (whole : Problem) (problems : List Problem) → problems ≡ each_alone whole → All HasText whole.roots
     → All (λ (problem : Problem). All HasText problem.roots) problems
 texts_of_all whole problems same all =
     subst (λ (ps : List Problem). All (λ (problem : Problem). All HasText problem.roots) ps) (sym same)

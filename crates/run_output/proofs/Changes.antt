@@ -16,7 +16,7 @@ use Rattle.run_task.specs.Answer.{Answer}
 use Rattle.run_task.specs.Answer.TheVariants as answers
 use Rattle.run_output.specs.Locks.{lock_of}
 use Rattle.run_task.specs.Words.{is_dash_path}
-use Rattle.run_task.specs.Problems.{Problem, alone, apart}
+use Rattle.run_task.specs.Problems.{Problem, alone, each_alone}
 use Rattle.run_task.specs.declared.task.Task.{Task}
 use Rattle.run_task.specs.declared.task.Task.TheVariants as tasks
 use Rattle.run_output.specs.Answers.{KeepsWhole}
@@ -101,7 +101,8 @@ keeps_from dir count root (problem ∷ more) [] before after all held = absurd h
 keeps_from dir count root (problem ∷ more) (answer ∷ others) before after all (inl held) =
     keeps_whole (λ path. ¬ IsOfRoots dir count path) (lock_at dir root) (cert_at dir root)
     (λ path other same. other (record { root = root; within = omega (arith, all); is_path = inl same }))
-    (λ dash path other same. other (record { root = root; within = omega (arith, all); is_path = inr same })) problem answer before after held
+    (λ dash path other same. other (record { root = root; within = omega (arith, all); is_path = inr same })) problem answer
+    before after held
 keeps_from dir count root (problem ∷ more) (answer ∷ others) before after all (inr held) =
     let between = files_with (lock_at dir root) (cert_at dir root) problem answer before in
     keeps_then (λ path. ¬ IsOfRoots dir count path) before between after
@@ -120,7 +121,7 @@ module _ (lock cert : List ℕ) where
       keeps_whole (IsOther lock cert) lock cert (λ path other. other.no_lock) (λ dash path other. other.no_cert dash) input.problem
       kept.answer (Some m) after kept.held
   keeps (tasks.Each input) (Some m) after (inr kept) =
-      keeps_from lock (length input.problem.roots) 0 (apart input.problem) kept.found (Some m) after
+      keeps_from lock (length input.problem.roots) 0 (each_alone input.problem) kept.found (Some m) after
       (omega (arith, length-map {B = Problem} input.problem.roots (alone input.problem))) kept.held
   keeps other (Some m) after (inr kept) = absurd kept
 

@@ -11,6 +11,7 @@ all_best (answers.Best graph log ∷ more) = all_best more
 all_best (answers.Nothing log ∷ more) = ⊥
 all_best (answers.Undecided log ∷ more) = ⊥
 
+-- behind graphs the other answers decide the outcome and the log
 pub behind_best : (front back : List Answer) → all_best front
     → (outcome_of_all (front ++ back) ≡ outcome_of_all back) × (log_of_all (front ++ back) ≡ log_of_all back)
 behind_best [] back best = (refl, refl)

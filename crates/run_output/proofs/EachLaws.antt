@@ -47,7 +47,8 @@ lines_more whole root at (p ∷ problems) (a ∷ found) problem answer same is =
     ∙ sym (append_assoc (root_line whole root ++ brief_line p a) (lines_from whole (root + 1) problems found)
     (root_line whole at ++ brief_line problem answer))
 
-module _ (dir : List ℕ) (problem : Problem) (answer : Answer) (later : List Problem) (others : List Answer) (at : ℕ) (after : Option Files) where
+module _ (dir : List ℕ) (problem : Problem) (answer : Answer) (later : List Problem) (others : List Answer) (at : ℕ)
+    (after : Option Files) where
   -- a put that failed behind roots of which all files are whole
   half_behind : (root : ℕ) (problems : List Problem) (found : List Answer) (path : List ℕ) (before : Option Files)
       → length found ≡ length problems → root + length problems ≡ at
@@ -86,6 +87,7 @@ take_to : {X : Type 0} (xs : List X) (i : ℕ) (x : X) → i < length xs → x �
 take_to xs i x within is = take_more xs i x within ∙ ap (λ y. take i xs ++ y ∷ []) (sym is)
 
 module _ {A B : Type 0} (R : A → B → Type 0) where
+  -- lists of which each pair holds are as long as each other
   pub zip_length : (xs : List A) (ys : List B) → AllZip R xs ys → length ys ≡ length xs
   zip_length [] [] all = refl
   zip_length [] (y ∷ ys) all = absurd all
@@ -98,7 +100,9 @@ module _ {A B : Type 0} (R : A → B → Type 0) where
   zip_at (x ∷ xs) (y ∷ ys) zero d e all lt = all.0
   zip_at (x ∷ xs) (y ∷ ys) (suc i) d e all lt = zip_at xs ys i d e all.1 (omega (arith, lt))
 
-  pub zip_here : (xs : List A) (ys : List B) (i : ℕ) (x : A) (y : B) → AllZip R xs ys → i < length xs → x ≡ get_or xs i x → y ≡ get_or ys i y
+  -- the pair at one place holds
+  pub zip_here : (xs : List A) (ys : List B) (i : ℕ) (x : A) (y : B) → AllZip R xs ys → i < length xs → x ≡ get_or xs i x
+      → y ≡ get_or ys i y
       → R x y
   zip_here xs ys i x y all within is at =
       subst (λ b. R x b) (sym at) (subst (λ a. R a (get_or ys i y)) (sym is) (zip_at xs ys i x y all within))

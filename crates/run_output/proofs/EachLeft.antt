@@ -5,7 +5,7 @@ use Rattle.proof_log.specs.declared.line.Line.{Line}
 use Rattle.run_task.specs.Answer.{Answer}
 use Rattle.run_task.specs.Answer.TheVariants as answers
 use Rattle.run_task.specs.Input.{Input}
-use Rattle.run_task.specs.Problems.{apart}
+use Rattle.run_task.specs.Problems.{each_alone}
 use Rattle.run_task.specs.WriteStop.{WriteStop}
 use Rattle.run_task.specs.WriteStop.TheVariants.{Put, Output, NoMemory}
 use Rattle.run_task.specs.declared.task.Task.TheVariants as tasks
@@ -38,7 +38,7 @@ module _ (dir cert : List ℕ) (input : Input) (before after : Option Files) (sa
   all_written (Err NoMemory) left = left
 
   -- what it keeps of the files at any end
-  pub all_held : (after ≡ before) ⊎ HoldsFrom dir 0 (apart input.problem) found before after
+  pub all_held : (after ≡ before) ⊎ HoldsFrom dir 0 (each_alone input.problem) found before after
       → (after ≡ before) ⊎ KeepsWhole evidence dir cert (tasks.Each input) before after
   all_held (inl same) = inl same
   all_held (inr held) = inr (record { found = found; each = each; held = held })

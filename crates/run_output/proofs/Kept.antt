@@ -10,7 +10,7 @@ use Rattle.run_task.specs.WriteStop.{WriteStop}
 use Rattle.run_task.specs.WriteStop.TheVariants.{Put, Output, NoMemory}
 use Rattle.run_task.specs.declared.task.Task.TheVariants as tasks
 use Rattle.run_output.specs.Answers.{Leaves}
-use Rattle.run_output.specs.Kept.{IsLeastLogTo, IsLogTo, KeepsAny}
+use Rattle.run_output.specs.Kept.{IsLeastLogTo, IsLogTo, IsReasonLogTo, KeepsAny}
 use Rattle.run_output.specs.Evidence.{IsFor}
 use Rattle.run_output.specs.declared.answer.Outcome.{Outcome}
 
@@ -27,13 +27,45 @@ module _ (lock cert : List ℕ) (input : Input) (before after : Option Files) (s
 
 module _ (lock cert : List ℕ) (input : Input) (before after : Option Files) (said more : Option (List ℕ)) where
   -- a trial
-  pub of_trial : (outcome : Outcome) (kept : List Line) (result : Result Outcome WriteStop) → IsLogTo input.problem outcome kept
-      → IfOk result (λ x. x ≡ outcome) → KeepsAny lock cert (tasks.Try input) before after said more kept result
-  of_trial outcome kept (Ok x) log same =
-      record { answer = log.answer; found = log.found; is_outcome = same ∙ log.is_outcome; lines = log.lines }
-  of_trial outcome kept (Err (Put at)) log same = record { answer = log.answer; found = log.found; lines = log.lines }
-  of_trial outcome kept (Err Output) log same = record { answer = log.answer; found = log.found; lines = log.lines }
-  of_trial outcome kept (Err NoMemory) log same = inr (record { answer = log.answer; found = log.found; lines = log.lines })
+  pub of_trial : (outcome : Outcome) (text : List ℕ) (kept : List Line) (result : Result Outcome WriteStop)
+      → IsLogTo input.problem outcome text kept → IfOk result (λ x. x ≡ outcome) → IfOk result (λ x. more ≡ and_said said text)
+      → KeepsAny lock cert (tasks.Try input) before after said more kept result
+  of_trial outcome text kept (Ok x) log same out = record {
+    text = text;
+    log = record {
+      answer = log.answer;
+      found = log.found;
+      is_outcome = same ∙ log.is_outcome;
+      is_text = log.is_text;
+      lines = log.lines;
+    };
+    out = out;
+  }
+  of_trial outcome text kept (Err (Put at)) log same out = record { answer = log.answer; found = log.found; lines = log.lines }
+  of_trial outcome text kept (Err Output) log same out = record { answer = log.answer; found = log.found; lines = log.lines }
+  of_trial outcome text kept (Err NoMemory) log same out = inr (record { answer = log.answer; found = log.found; lines = log.lines })
+
+  -- an explanation
+  pub of_explanation : (outcome : Outcome) (text : List ℕ) (kept : List Line) (result : Result Outcome WriteStop)
+      → IsReasonLogTo input.problem outcome text kept → IfOk result (λ x. x ≡ outcome) → IfOk result (λ x. more ≡ and_said said text)
+      → KeepsAny lock cert (tasks.Explain input) before after said more kept result
+  of_explanation outcome text kept (Ok x) log same out = record {
+    text = text;
+    log = record {
+      explanation = log.explanation;
+      explains = log.explains;
+      is_outcome = same ∙ log.is_outcome;
+      is_text = log.is_text;
+      lines = log.lines;
+    };
+    out = out;
+  }
+  of_explanation outcome text kept (Err (Put at)) log same out =
+      record { explanation = log.explanation; explains = log.explains; lines = log.lines }
+  of_explanation outcome text kept (Err Output) log same out =
+      record { explanation = log.explanation; explains = log.explains; lines = log.lines }
+  of_explanation outcome text kept (Err NoMemory) log same out =
+      inr (record { explanation = log.explanation; explains = log.explains; lines = log.lines })
 
   -- a least list
   pub of_least : (outcome : Outcome) (text : List ℕ) (kept : List Line) (result : Result Outcome WriteStop)

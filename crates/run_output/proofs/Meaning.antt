@@ -2,7 +2,7 @@
 use Rattle.std.proofs.Common.{ℕ, List, [], ◌∷◌, Option, Ok, Err}
 use Rattle.outside_desk.specs.Files.{Files}
 use Rattle.std.specs.List.{AllZip}
-use Rattle.run_task.specs.Problems.{Problem, apart}
+use Rattle.run_task.specs.Problems.{Problem, each_alone}
 use Rattle.run_output.specs.Each.{AreSolvedApart}
 use Rattle.run_task.specs.Answer.{Answer}
 use Rattle.run_task.specs.WriteStop.{WriteStop}
@@ -18,7 +18,8 @@ use Rattle.run_output.specs.declared.answer.Outcome.{Outcome}
 use Rattle.run_output.specs.declared.answer.Outcome.TheVariants.{Solved, Unsolved, Undecided, Stale}
 
 -- what is told of a comparison
-compared_meant : (problem : Problem) (numbers : List ℕ) (outcome : Outcome) (text : List ℕ) → IsCompared evidence problem numbers outcome text
+compared_meant : (problem : Problem) (numbers : List ℕ) (outcome : Outcome) (text : List ℕ)
+    → IsCompared evidence problem numbers outcome text
     → IsCompared meaning problem numbers outcome text
 compared_meant problem numbers Solved text t =
     record { graph = t.graph; log = t.log; best = t.best.means; same = t.same; is_text = t.is_text }
@@ -55,7 +56,7 @@ module _ (before after : Option Files) (said more : Option (List ℕ)) where
       → AreSolvedApart meaning dir problem outcome before after said more
   apart_meant dir problem outcome s = record {
     found = s.found;
-    each = all_meant (apart problem) s.found s.each;
+    each = all_meant (each_alone problem) s.found s.each;
     is_outcome = s.is_outcome;
     files = s.files;
     out = s.out;
@@ -101,7 +102,7 @@ module _ (before after : Option Files) (said more : Option (List ℕ)) where
       → IsHalfDone meaning lock cert task path before after
   half_meant lock cert (tasks.Solve input) path h = record { answer = h.answer; found = h.found.means; half = h.half }
   half_meant dir cert (tasks.Each input) path h =
-      record { found = h.found; each = all_meant (apart input.problem) h.found h.each; half = h.half }
+      record { found = h.found; each = all_meant (each_alone input.problem) h.found h.each; half = h.half }
   half_meant lock cert other path h = absurd h
 
   untold_meant : (lock cert : List ℕ) (task : Task) → IsUntold evidence lock cert task before after said more
@@ -109,7 +110,7 @@ module _ (before after : Option Files) (said more : Option (List ℕ)) where
   untold_meant lock cert (tasks.Solve input) u =
       record { answer = u.answer; found = u.found.means; files = u.files; out = u.out }
   untold_meant dir cert (tasks.Each input) u =
-      record { found = u.found; each = all_meant (apart input.problem) u.found u.each; files = u.files; out = u.out }
+      record { found = u.found; each = all_meant (each_alone input.problem) u.found u.each; files = u.files; out = u.out }
   untold_meant lock cert other t = half_told_meant other t
 
   -- what writing leaves
@@ -128,5 +129,5 @@ pub whole_meant : (lock cert : List ℕ) (task : Task) (before after : Option Fi
     → KeepsWhole meaning lock cert task before after
 whole_meant lock cert (tasks.Solve input) before after w = record { answer = w.answer; found = w.found.means; held = w.held }
 whole_meant dir cert (tasks.Each input) before after w =
-    record { found = w.found; each = all_meant (apart input.problem) w.found w.each; held = w.held }
+    record { found = w.found; each = all_meant (each_alone input.problem) w.found w.each; held = w.held }
 whole_meant lock cert other before after w = absurd w

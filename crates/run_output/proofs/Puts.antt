@@ -1,10 +1,9 @@
 -- What puts leave of the files.
-use Rattle.std.proofs.Common.{◌≡◌, ◌⊎◌, inl, inr, sym, ap, subst, ◌∙◌, ℕ, true, false, List, Option, Result, Ok, Err}
+use Rattle.std.proofs.Common.{◌≡◌, ◌⊎◌, inl, inr, sym, ap, subst, ◌∙◌, ℕ, true, List, Option, Result, Ok, Err}
 use Rattle.std.specs.Result.{IsErrAnd}
 use Rattle.outside_desk.specs.Files.{Files, with_file, MayHold}
 use Rattle.graph_core.specs.Graphs.{Content}
 use Rattle.proof_log.specs.declared.line.Line.{Line}
-use Rattle.proof_log.specs.Readings.{log_text}
 use Rattle.run_task.specs.Answers.{log_of}
 use Rattle.run_task.specs.Answer.{Answer}
 use Rattle.run_task.specs.Answer.TheVariants as answers
@@ -27,21 +26,6 @@ carried stop (Err given) h = ap Err h
 pub no_cert : (cert : List ℕ) (log : List Line) (before after : Option Files) → is_dash_path cert ≡ true → after ≡ before
     → after ≡ with_cert cert log before
 no_cert cert log before after dash same = same ∙ sym (ap (λ b. with_cert_by b cert log before) dash)
-
--- one is put
-pub cert_put : (cert : List ℕ) (log : List Line) (text : List ℕ) (before after : Option Files) (result : Result (Unit {0}) WriteStop)
-    → is_dash_path cert ≡ false → text ≡ log_text log → Puts cert text before after result → PutsCert cert log before after result
-cert_put cert log text before after (Ok done) dash is left =
-    left ∙ ap (with_file before cert) is ∙ sym (ap (λ b. with_cert_by b cert log before) dash)
-cert_put cert log text before after (Err (Put at)) dash is (same, held) =
-    (same, (dash, subst (λ (t : List ℕ). MayHold before after cert t) is held))
-cert_put cert log text before after (Err Output) dash is left = absurd left
-cert_put cert log text before after (Err NoMemory) dash is left = tt
-
--- the certificate alone was put
-pub cert_held : (cert : List ℕ) (log : List Line) (text : List ℕ) (before after : Option Files)
-    → is_dash_path cert ≡ false → text ≡ log_text log → MayHold before after cert text → (after ≡ before) ⊎ MayCert cert log before after
-cert_held cert log text before after dash is held = inr (dash, subst (λ (t : List ℕ). MayHold before after cert t) is held)
 
 -- ---- the certificate, and then the lock file
 
@@ -83,18 +67,3 @@ pub second_held : (lock cert : List ℕ) (problem : Problem) (graph : Content) (
 second_held lock cert problem graph log text before between after first is held =
     inr (inr (subst (λ (m : Option Files). MayHold m after lock (lock_of problem graph)) first
     (subst (λ (t : List ℕ). MayHold between after lock t) is held)))
-
--- an answer without a graph
-pub nothing_put : (lock cert : List ℕ) (problem : Problem) (log : List Line) (before after : Option Files)
-    (result : Result (Unit {0}) WriteStop) → PutsCert cert log before after result
-    → PutsAnswer lock cert problem (answers.Nothing log) before after result
-nothing_put lock cert problem log before after (Ok done) left = left
-nothing_put lock cert problem log before after (Err stop) left = first_stopped lock cert problem (answers.Nothing log) stop before after left
-
--- the log of a spent budget
-pub undecided_put : (lock cert : List ℕ) (problem : Problem) (log : List Line) (before after : Option Files)
-    (result : Result (Unit {0}) WriteStop) → PutsCert cert log before after result
-    → PutsAnswer lock cert problem (answers.Undecided log) before after result
-undecided_put lock cert problem log before after (Ok done) left = left
-undecided_put lock cert problem log before after (Err stop) left =
-    first_stopped lock cert problem (answers.Undecided log) stop before after left

@@ -31,8 +31,8 @@ of_answer problem (answers.Undecided log) found is = found.1
 of_explanation : (problem : Problem) (explanation : Explanation) → Explains problem problem.settings.conflict_budget explanation
     → Undecided ≡ explanation_outcome explanation → problem.settings.conflict_budget < 2 ^ 64 - 1
 of_explanation problem explanations.Satisfiable explains is = absurd (cc)
-of_explanation problem (explanations.Unmet demands) explains is = absurd (cc)
-of_explanation problem explanations.Undecided explains is = explains
+of_explanation problem (explanations.Unmet demands log) explains is = absurd (cc)
+of_explanation problem (explanations.Undecided log) explains is = explains
 
 of_least : (problem : Problem) (explanation : LeastExplanation) → ExplainsLeast problem problem.settings.conflict_budget explanation
     → Undecided ≡ least_outcome explanation → problem.settings.conflict_budget < 2 ^ 64 - 1

@@ -28,11 +28,13 @@ module _ (lock cert : List ℕ) (files : Option Files) (said more : Option (List
   told_writes other Undecided tells out = record { text = text; tells = tells; files = refl; out = out }
   told_writes other Stale tells out = record { text = text; tells = tells; files = refl; out = out }
 
-  half_told : (task : Task) (outcome : Outcome) → Tells evidence task outcome text → SaysPart said more text → IsHalfTold evidence task files files said more
+  half_told : (task : Task) (outcome : Outcome) → Tells evidence task outcome text → SaysPart said more text
+      → IsHalfTold evidence task files files said more
   half_told task outcome tells part = record { outcome = outcome; text = text; tells = tells; files = refl; out = part }
 
   -- what was said in part
-  pub told_stops : (task : Task) (outcome : Outcome) (stop : WriteStop) → Tells evidence task outcome text → SaysText text said more (Err stop)
+  pub told_stops : (task : Task) (outcome : Outcome) (stop : WriteStop) → Tells evidence task outcome text
+      → SaysText text said more (Err stop)
       → Writes evidence lock cert task files files said more (Err stop)
   told_stops task outcome (Put at) tells says = absurd says
   told_stops (tasks.Solve input) outcome Output tells says = absurd tells

@@ -122,14 +122,16 @@ IsFinished sense lock cert task before after out_before out_after = IsTold sense
 abbrev pub HasNone : Sense → List ℕ → List ℕ → Task → Option Files → Option Files → Option (List ℕ) → Option (List ℕ) → Type 0
 HasNone sense dir cert (tasks.Each input) before after out_before out_after =
     AreSolvedApart sense dir input.problem outcomes.Unsolved before after out_before out_after
-HasNone sense lock cert (tasks.Solve input) before after out_before out_after = IsUnsolved sense cert input.problem before after out_before out_after
+HasNone sense lock cert (tasks.Solve input) before after out_before out_after =
+    IsUnsolved sense cert input.problem before after out_before out_after
 HasNone sense lock cert task before after out_before out_after = IsTold sense task outcomes.Unsolved before after out_before out_after
 
 -- the budget was spent
 abbrev pub HasSpent : Sense → List ℕ → List ℕ → Task → Option Files → Option Files → Option (List ℕ) → Option (List ℕ) → Type 0
 HasSpent sense dir cert (tasks.Each input) before after out_before out_after =
     AreSolvedApart sense dir input.problem outcomes.Undecided before after out_before out_after
-HasSpent sense lock cert (tasks.Solve input) before after out_before out_after = IsBudgetSpent sense cert input.problem before after out_before out_after
+HasSpent sense lock cert (tasks.Solve input) before after out_before out_after =
+    IsBudgetSpent sense cert input.problem before after out_before out_after
 HasSpent sense lock cert task before after out_before out_after = IsTold sense task outcomes.Undecided before after out_before out_after
 
 -- the lock file is right, and a better graph was found: `fresh` alone says so
@@ -155,13 +157,17 @@ IsUntold sense lock cert task before after out_before out_after = IsHalfTold sen
 -- what writing leaves
 abbrev pub Writes : Sense → List ℕ → List ℕ → Task → Option Files → Option Files → Option (List ℕ) → Option (List ℕ)
     → Result Outcome WriteStop → Type 0
-Writes sense lock cert task before after out_before out_after (Ok outcomes.Solved) = IsFinished sense lock cert task before after out_before out_after
-Writes sense lock cert task before after out_before out_after (Ok outcomes.Unsolved) = HasNone sense lock cert task before after out_before out_after
-Writes sense lock cert task before after out_before out_after (Ok outcomes.Undecided) = HasSpent sense lock cert task before after out_before out_after
+Writes sense lock cert task before after out_before out_after (Ok outcomes.Solved) =
+    IsFinished sense lock cert task before after out_before out_after
+Writes sense lock cert task before after out_before out_after (Ok outcomes.Unsolved) =
+    HasNone sense lock cert task before after out_before out_after
+Writes sense lock cert task before after out_before out_after (Ok outcomes.Undecided) =
+    HasSpent sense lock cert task before after out_before out_after
 Writes sense lock cert task before after out_before out_after (Ok outcomes.Stale) = HasBetter sense task before after out_before out_after
 Writes sense lock cert task before after out_before out_after (Err (writes.Put at)) =
     IsHalfDone sense lock cert task at before after × (out_after ≡ out_before)
-Writes sense lock cert task before after out_before out_after (Err writes.Output) = IsUntold sense lock cert task before after out_before out_after
+Writes sense lock cert task before after out_before out_after (Err writes.Output) =
+    IsUntold sense lock cert task before after out_before out_after
 Writes sense lock cert task before after out_before out_after (Err writes.NoMemory) = out_after ≡ out_before
 
 -- files were put

@@ -6,7 +6,7 @@ use Rattle.proof_log.specs.declared.line.Line.{Line}
 use Rattle.run_answers.specs.Texts.{root_line}
 use Rattle.run_task.specs.Costs.{vector}
 use Rattle.run_task.specs.Places.{cert_at, lock_at}
-use Rattle.run_task.specs.Problems.{Problem, apart}
+use Rattle.run_task.specs.Problems.{Problem, each_alone}
 use Rattle.run_task.specs.Answer.{Answer}
 use Rattle.run_task.specs.Answer.TheVariants as answers
 use Rattle.run_output.specs.Put.{files_with, HoldsWhole, IsHalfPut}
@@ -18,7 +18,7 @@ use Rattle.run_output.specs.declared.answer.Outcome.TheVariants as outcomes
 
 -- an answer of each root by itself, as many as there are roots
 abbrev pub AreAnswersOf : Sense → Problem → List Answer → Type 0
-AreAnswersOf sense problem found = AllZip sense.answers (apart problem) found
+AreAnswersOf sense problem found = AllZip sense.answers (each_alone problem) found
 
 -- ---- what they come to
 
@@ -52,7 +52,7 @@ lines_from whole root (problem ∷ more) (answer ∷ others) =
     (root_line whole root ++ brief_line problem answer) ++ lines_from whole (root + 1) more others
 
 abbrev pub each_text : Problem → List Answer → List ℕ
-each_text problem found = lines_from problem 0 (apart problem) found
+each_text problem found = lines_from problem 0 (each_alone problem) found
 
 -- ---- files
 
@@ -65,7 +65,7 @@ files_from dir root (problem ∷ more) (answer ∷ others) files =
     files_from dir (root + 1) more others (files_with (lock_at dir root) (cert_at dir root) problem answer files)
 
 abbrev pub files_of_each : List ℕ → Problem → List Answer → Option Files → Option Files
-files_of_each dir problem found files = files_from dir 0 (apart problem) found files
+files_of_each dir problem found files = files_from dir 0 (each_alone problem) found files
 
 -- a put at the path failed: all files of the roots before are whole, and those of one root are as after a put that failed
 abbrev pub IsHalfFrom : List ℕ → ℕ → List Problem → List Answer → List ℕ → Option Files → Option Files → Type 0
@@ -100,10 +100,11 @@ pub record AreSolvedApart (sense : Sense) (dir : List ℕ) (problem : Problem) (
 pub record HaveHalfPut (sense : Sense) (dir : List ℕ) (problem : Problem) (path : List ℕ) (before after : Option Files) : Type 0 where
   pub found : List Answer
   pub each : AreAnswersOf sense problem found
-  pub half : IsHalfFrom dir 0 (apart problem) found path before after
+  pub half : IsHalfFrom dir 0 (each_alone problem) found path before after
 
 -- all files were put, and the sink failed: a front of the lines was said
-pub record AreUnsaid (sense : Sense) (dir : List ℕ) (problem : Problem) (before after : Option Files) (out_before out_after : Option (List ℕ)) : Type 0 where
+pub record AreUnsaid (sense : Sense) (dir : List ℕ) (problem : Problem) (before after : Option Files)
+    (out_before out_after : Option (List ℕ)) : Type 0 where
   pub found : List Answer
   pub each : AreAnswersOf sense problem found
   pub files : after ≡ files_of_each dir problem found before
@@ -113,4 +114,4 @@ pub record AreUnsaid (sense : Sense) (dir : List ℕ) (problem : Problem) (befor
 pub record HaveWhole (sense : Sense) (dir : List ℕ) (problem : Problem) (before after : Option Files) : Type 0 where
   pub found : List Answer
   pub each : AreAnswersOf sense problem found
-  pub held : HoldsFrom dir 0 (apart problem) found before after
+  pub held : HoldsFrom dir 0 (each_alone problem) found before after

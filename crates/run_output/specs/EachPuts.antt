@@ -1,7 +1,7 @@
 -- What the puts of the answers of all roots leave.
 use Rattle.std.specs.Prelude.{◌≡◌, ℕ, List, Option, Result, Ok, Err}
 use Rattle.outside_desk.specs.Files.{Files, and_said, SaysPart}
-use Rattle.run_task.specs.Problems.{Problem, apart}
+use Rattle.run_task.specs.Problems.{Problem, each_alone}
 use Rattle.run_task.specs.Answer.{Answer}
 use Rattle.run_task.specs.WriteStop.{WriteStop}
 use Rattle.run_task.specs.WriteStop.TheVariants as writes
@@ -21,7 +21,7 @@ LeavesEach dir problem found before after out_before out_after (Ok outcome) =
     (outcome ≡ outcome_of_all found) × (after ≡ files_of_each dir problem found before)
     × (out_after ≡ and_said out_before (each_text problem found))
 LeavesEach dir problem found before after out_before out_after (Err (writes.Put path)) =
-    IsHalfFrom dir 0 (apart problem) found path before after × (out_after ≡ out_before)
+    IsHalfFrom dir 0 (each_alone problem) found path before after × (out_after ≡ out_before)
 LeavesEach dir problem found before after out_before out_after (Err writes.Output) =
     (after ≡ files_of_each dir problem found before) × SaysPart out_before out_after (each_text problem found)
 LeavesEach dir problem found before after out_before out_after (Err writes.NoMemory) = out_after ≡ out_before

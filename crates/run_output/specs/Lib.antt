@@ -33,6 +33,7 @@ pub use Rattle.run_task.specs.Roots
 pub use Rattle.run_task.specs.CertificateVerdicts
 pub use Rattle.run_task.specs.Certificates
 pub use Rattle.run_task.specs.Tasks
+pub use Rattle.run_task.specs.Looks
 pub use Rattle.run_task.specs.Shown
 pub use Rattle.run_task.specs.declared.task.Task
 pub use Rattle.run_task.specs.Answer
@@ -42,6 +43,7 @@ pub use Rattle.proof_log.specs.declared.line.Line
 pub use Rattle.run_task.specs.LeastExplanation
 pub use Rattle.run_task.specs.Places
 -- what laws that read the headline name
+pub use Rattle.run_answers.specs.Texts as DemandTexts
 pub use Rattle.graph_core.specs.Graphs
 pub use Rattle.problem.specs.Nodes
 pub use Rattle.problem.specs.Demands

@@ -7,7 +7,7 @@ use Rattle.graph_core.specs.declared.node.Node.{Node}
 use Rattle.graph_core.specs.declared.node.Origin.{Origin}
 use Rattle.graph_core.specs.declared.node.Origin.TheVariants.{Built, External, Installed}
 use Rattle.reuse_db.specs.declared.record.Record.{Record}
-use Rattle.spec_find.specs.Found.{installed_node}
+use Rattle.reuse_db.specs.Installed.{installed_node}
 
 -- the compiler, after a space
 unfoldable pub compiler_text : Option Compiler → List ℕ

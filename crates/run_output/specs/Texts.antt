@@ -61,13 +61,19 @@ satisfiable_line = codes "satisfiable\n"
 -- whether there is a graph, and else a line for each demand that stands against one
 abbrev pub explanation_text : Problem → Explanation → List ℕ
 explanation_text problem explanations.Satisfiable = satisfiable_line
-explanation_text problem (explanations.Unmet demands) = reasons_text problem demands
-explanation_text problem explanations.Undecided = undecided_line problem.settings.conflict_budget
+explanation_text problem (explanations.Unmet demands log) = reasons_text problem demands
+explanation_text problem (explanations.Undecided log) = undecided_line problem.settings.conflict_budget
 
 abbrev pub explanation_outcome : Explanation → Outcome
 explanation_outcome explanations.Satisfiable = outcomes.Solved
-explanation_outcome (explanations.Unmet demands) = outcomes.Unsolved
-explanation_outcome explanations.Undecided = outcomes.Undecided
+explanation_outcome (explanations.Unmet demands log) = outcomes.Unsolved
+explanation_outcome (explanations.Undecided log) = outcomes.Undecided
+
+-- the log on which it rests: where there is a graph no line
+abbrev pub explanation_log : Explanation → List Line
+explanation_log explanations.Satisfiable = []
+explanation_log (explanations.Unmet demands log) = log
+explanation_log (explanations.Undecided log) = log
 
 abbrev pub is_learnt : Line → Bool
 is_learnt (Learnt id c chain) = true

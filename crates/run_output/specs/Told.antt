@@ -110,7 +110,8 @@ Tells sense (tasks.Find query) outcome text = IsLookedFor query outcome text
 Tells sense (tasks.Plan graph) outcome text = IsPlanned graph outcome text
 
 -- it was said, and no file changed
-pub record IsTold (sense : Sense) (task : Task) (outcome : Outcome) (before after : Option Files) (out_before out_after : Option (List ℕ)) : Type 0 where
+pub record IsTold (sense : Sense) (task : Task) (outcome : Outcome) (before after : Option Files)
+    (out_before out_after : Option (List ℕ)) : Type 0 where
   pub text : List ℕ
   pub tells : Tells sense task outcome text
   pub files : after ≡ before

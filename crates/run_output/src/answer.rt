@@ -81,7 +81,8 @@ fn tell<O: Sink>(alloc: Global, _task: &Task, said: Said, out: &mut O) -> Result
     ensures steady { OnOk result (O.faults out.new ≡ O.faults out.old) }
     ensures no_put { EndsInPutFault result → ⊥ }
     ensures outcome { IfOk result (λ outcome. outcome ≡ said.outcome) }
-    ensures out { IfOk result (λ outcome. O.said out.new ≡ and_said (O.said out.old) said.text.items) }
+    ensures out { IfOk result (λ outcome. O.said out.new ≡ and_said (O.said out.old)
+        said.text.items) }
 {
     say(alloc, out, said.text.as_slice())?;
     Ok(said.outcome)
@@ -128,7 +129,7 @@ pub fn write_answer<R: Threads + Sync, D: Desk, O: Sink, P: Progress>(
             tell(alloc, task, said, out)
         }
         Task::Explain(input) => {
-            let said = of_reasons(alloc, input, progress)?;
+            let said = of_reasons(alloc, input, kept, progress)?;
             tell(alloc, task, said, out)
         }
         Task::Reasons(input) => {

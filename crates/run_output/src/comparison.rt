@@ -56,7 +56,8 @@ fn beside_best(
 ) -> Result<Said, AllocError>
     requires best { IsFor problem.now (answers.Best graph.now _log.now) }
     requires costs { HasCosts problem.now numbers.now }
-    ensures { IfOk result (λ said. IsCompared evidence problem.now numbers.now said.outcome said.text.items) }
+    ensures { IfOk result (λ said. IsCompared evidence problem.now numbers.now said.outcome
+        said.text.items) }
 {
     let best = vector(alloc, problem, graph)?;
     if is_smaller(&best, numbers) {
@@ -82,7 +83,8 @@ fn beside(
 ) -> Result<Said, AllocError>
     requires found { IsFor problem.now answer.now }
     requires costs { HasCosts problem.now numbers.now }
-    ensures { IfOk result (λ said. IsCompared evidence problem.now numbers.now said.outcome said.text.items) }
+    ensures { IfOk result (λ said. IsCompared evidence problem.now numbers.now said.outcome
+        said.text.items) }
 {
     match answer {
         Answer::Best { graph, log } => beside_best(alloc, problem, numbers, graph, log),
@@ -103,7 +105,8 @@ pub(crate) fn of_comparison<P: Progress>(
 ) -> Result<Said, AllocError>
     requires ready { IsReadyInput input.now }
     requires costs { HasCosts input.now.problem numbers.now }
-    ensures { IfOk result (λ said. Tells evidence (tasks.Compare input.now numbers.now) said.outcome said.text.items) }
+    ensures { IfOk result (λ said. Tells evidence (tasks.Compare input.now numbers.now) said.outcome
+        said.text.items) }
 {
     let answer = find(alloc, input, progress)?;
     let said = beside(alloc, &input.problem, numbers, &answer);

@@ -2,7 +2,7 @@
 
 ghost use Rattle.std.specs.Prelude.{◌≡◌, ◌⊎◌, ℕ, List as Items, [], All, IfOk, OnOk};
 ghost use Rattle.outside_desk.specs.Causes.{Counts};
-ghost use Rattle.problem.specs.Problems.{apart};
+ghost use Rattle.problem.specs.Problems.{each_alone};
 ghost use Rattle.root_graphs.specs.Each.{IsSolvable};
 ghost use Rattle.run_task.specs.Stops.{EndsInPutFault, EndsInOutputFault};
 ghost use Rattle.run_task.specs.Tasks.{IsReady};
@@ -26,7 +26,7 @@ use std::thread::Threads;
 /// The problem of each root by itself. They share all but that.
 fn problems_of(alloc: Global, input: &Input) -> Result<Vec<Problem>, AllocError>
     requires { IsReady (tasks.Each input.now) }
-    ensures apart { IfOk result (λ problems. problems.items ≡ apart input.now.problem) }
+    ensures apart { IfOk result (λ problems. problems.items ≡ each_alone input.now.problem) }
     ensures solvable { IfOk result (λ problems. All IsSolvable problems.items) }
 {
     alone_laws();
@@ -45,7 +45,7 @@ fn find_each<R: Threads + Sync, P: Progress>(
     problems: &[Problem],
     progress: &mut P,
 ) -> Result<Vec<Answer>, AllocError>
-    requires apart { problems.now ≡ apart input.now.problem }
+    requires apart { problems.now ≡ each_alone input.now.problem }
     requires solvable { All IsSolvable problems.now }
     ensures { IfOk result (λ answers. AreAnswersOf evidence input.now.problem answers.items) }
 {
@@ -70,7 +70,8 @@ pub(crate) fn write_each<R: Threads + Sync, D: Desk, O: Sink, P: Progress>(
 ) -> Result<Outcome, WriteStop>
     requires ready { IsReady (tasks.Each input.now) }
     requires empty { kept.old ≡ [] }
-    ensures left { (cert : Items ℕ) → Writes evidence dir.now cert (tasks.Each input.now) (D.files desk.old)
+    ensures left { (cert : Items ℕ)
+        → Writes evidence dir.now cert (tasks.Each input.now) (D.files desk.old)
         (D.files desk.new) (O.said out.old) (O.said out.new) result }
     ensures held { (cert : Items ℕ) → (D.files desk.new ≡ D.files desk.old)
         ⊎ KeepsWhole evidence dir.now cert (tasks.Each input.now) (D.files desk.old)
@@ -80,7 +81,8 @@ pub(crate) fn write_each<R: Threads + Sync, D: Desk, O: Sink, P: Progress>(
     ensures said { Counts (O.faults out.old) (O.faults out.new) (EndsInOutputFault result) }
     ensures steady { OnOk result ((D.put_faults desk.new ≡ D.put_faults desk.old)
         × (O.faults out.new ≡ O.faults out.old)) }
-    ensures kept { (cert : Items ℕ) → KeepsAny dir.now cert (tasks.Each input.now) (D.files desk.old)
+    ensures kept { (cert : Items ℕ)
+        → KeepsAny dir.now cert (tasks.Each input.now) (D.files desk.old)
         (D.files desk.new) (O.said out.old) (O.said out.new) kept.new result }
 {
     let problems = problems_of(alloc, input)?;

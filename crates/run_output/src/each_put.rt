@@ -4,7 +4,7 @@ ghost use Rattle.std.specs.Prelude.{◌≡◌, ◌⊎◌, All, OnOk, length};
 ghost use Rattle.std.specs.List.{AllZip};
 ghost use Rattle.std.specs.Str.{IsUtf8};
 ghost use Rattle.outside_desk.specs.Causes.{Counts};
-ghost use Rattle.problem.specs.Problems.{apart};
+ghost use Rattle.problem.specs.Problems.{each_alone};
 ghost use Rattle.spec_grammar.specs.Canonical.{spec_text};
 ghost use Rattle.run_task.specs.Places.{cert_at, lock_at};
 ghost use Rattle.run_task.specs.Stops.{EndsInPutFault, EndsInOutputFault};
@@ -61,8 +61,10 @@ fn put_each<D: Desk>(
 ) -> Result<(), WriteStop>
     requires each { AllZip evidence.answers problems.now answers.now }
     requires count { length answers.now ≡ length problems.now }
-    requires texts { All (λ problem. All (λ spec. IsUtf8 (spec_text spec)) problem.roots) problems.now }
-    ensures left { PutsEach dir.now problems.now answers.now (D.files desk.old) (D.files desk.new) result }
+    requires texts { All (λ problem. All (λ spec. IsUtf8 (spec_text spec)) problem.roots)
+        problems.now }
+    ensures left { PutsEach dir.now problems.now answers.now (D.files desk.old)
+        (D.files desk.new) result }
     ensures held { (D.files desk.new ≡ D.files desk.old)
         ⊎ HoldsFrom dir.now 0 problems.now answers.now (D.files desk.old) (D.files desk.new) }
     ensures no_output { EndsInOutputFault result → ⊥ }
@@ -125,13 +127,14 @@ pub(crate) fn write_found_each<D: Desk, O: Sink>(
     desk: &mut D,
     out: &mut O,
 ) -> Result<Outcome, WriteStop>
-    requires apart { problems.now ≡ apart whole.now }
+    requires apart { problems.now ≡ each_alone whole.now }
     requires each { AreAnswersOf evidence whole.now answers.now }
     requires texts { All (λ spec. IsUtf8 (spec_text spec)) whole.now.roots }
     ensures left { LeavesEach dir.now whole.now answers.now (D.files desk.old) (D.files desk.new)
         (O.said out.old) (O.said out.new) result }
     ensures held { (D.files desk.new ≡ D.files desk.old)
-        ⊎ HoldsFrom dir.now 0 (apart whole.now) answers.now (D.files desk.old) (D.files desk.new) }
+        ⊎ HoldsFrom dir.now 0 (each_alone whole.now) answers.now (D.files desk.old)
+        (D.files desk.new) }
     ensures faults { D.faults desk.new ≡ D.faults desk.old }
     ensures put { Counts (D.put_faults desk.old) (D.put_faults desk.new) (EndsInPutFault result) }
     ensures said { Counts (O.faults out.old) (O.faults out.new) (EndsInOutputFault result) }

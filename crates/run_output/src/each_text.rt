@@ -1,7 +1,7 @@
 //! What is said where each root is solved by itself.
 
 ghost use Rattle.std.specs.Prelude.{◌≡◌, ◌++◌, ◌<◌, ◌^◌, IfOk, OnOk, length};
-ghost use Rattle.problem.specs.Problems.{apart};
+ghost use Rattle.problem.specs.Problems.{each_alone};
 ghost use Rattle.run_answers.specs.Texts.{root_line};
 ghost use Rattle.run_output.specs.Each.{brief_line, each_text};
 
@@ -62,7 +62,7 @@ pub(crate) fn each_text(
     problems: &[Problem],
     answers: &[Answer],
 ) -> Result<Vec<u8>, AllocError>
-    requires apart { problems.now ≡ apart whole.now }
+    requires apart { problems.now ≡ each_alone whole.now }
     requires count { length answers.now ≡ length problems.now }
     ensures { IfOk result (λ text. text.items ≡ each_text whole.now answers.now) }
 {

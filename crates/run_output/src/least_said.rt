@@ -28,6 +28,7 @@ fn open_text(alloc: Global, problem: &Problem, demands: &[u64]) -> Result<Vec<u8
     Ok(text)
 }
 
+/// What is said of a least list, of none, and of demands that a budget left open.
 fn least_explanation_text(
     alloc: Global,
     problem: &Problem,
@@ -78,8 +79,10 @@ pub fn of_least_reasons<P: Progress>(
 ) -> Result<Said, AllocError>
     requires ready { IsReadyInput input.now }
     requires empty { kept.old ≡ [] }
-    ensures said { IfOk result (λ said. Tells evidence (tasks.Reasons input.now) said.outcome said.text.items) }
-    ensures kept { IfOk result (λ said. IsLeastLogTo input.now.problem said.outcome said.text.items kept.new) }
+    ensures said { IfOk result (λ said. Tells evidence (tasks.Reasons input.now) said.outcome
+        said.text.items) }
+    ensures kept { IfOk result (λ said. IsLeastLogTo input.now.problem said.outcome
+        said.text.items kept.new) }
     ensures short { OnErr result (kept.new ≡ []) }
 {
     let problem = &input.problem;

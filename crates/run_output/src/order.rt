@@ -80,7 +80,8 @@ fn plan_text(alloc: Global, plan: &Plan) -> Result<Vec<u8>, AllocError>
 /// Of the order in which a graph without a cycle can be built.
 pub(crate) fn of_graph(alloc: Global, graph: &Graph) -> Result<Said, AllocError>
     requires { IsAcyclic (JoinedIn graph.now) }
-    ensures { IfOk result (λ said. Tells evidence (tasks.Plan graph.now) said.outcome said.text.items) }
+    ensures { IfOk result (λ said. Tells evidence (tasks.Plan graph.now) said.outcome
+        said.text.items) }
 {
     let plan = waves(alloc, graph)?;
     Ok(Said {

@@ -28,7 +28,8 @@ fn write_if_there(
     entry: Option<&Record>,
     out: &mut Vec<u8>,
 ) -> Result<(), AllocError>
-    ensures { OnOk result (out.new.items ≡ out.old.items ++ line_if_there (option_copied entry.entry)) }
+    ensures { OnOk result (out.new.items ≡ out.old.items
+        ++ line_if_there (option_copied entry.entry)) }
 {
     match entry {
         Some(entry) => write_record(alloc, entry, out),
@@ -58,7 +59,8 @@ fn found_text(alloc: Global, database: &Database, places: &[u64]) -> Result<Vec<
 
 /// Of the installed packages that meet a condition.
 pub(crate) fn of_query(alloc: Global, query: &Query) -> Result<Said, AllocError>
-    ensures { IfOk result (λ said. Tells evidence (tasks.Find query.now) said.outcome said.text.items) }
+    ensures { IfOk result (λ said. Tells evidence (tasks.Find query.now) said.outcome
+        said.text.items) }
 {
     let (world, database) = (query.problem.world(), query.problem.database());
     let places = find(alloc, &world, database, &query.spec)?;

@@ -15,7 +15,7 @@ use proof_log::{Log, log_text};
 use run_task::{WriteStop, is_dash};
 use std::alloc::Global;
 
-/// Puts a file.
+/// Puts a file. A fault of the desk is told as one, and as nothing else (`told`).
 pub fn put_file<D: Desk>(
     alloc: Global,
     desk: &mut D,
@@ -28,10 +28,13 @@ pub fn put_file<D: Desk>(
     ensures faults { D.faults desk.new ≡ D.faults desk.old }
     ensures cause { Counts (D.put_faults desk.old) (D.put_faults desk.new) (EndsInPutFault result) }
     ensures steady { OnOk result (D.put_faults desk.new ≡ D.put_faults desk.old) }
+    ensures told { ¬ EndsInPutFault result → D.put_faults desk.new ≡ D.put_faults desk.old }
 {
+    // It is made first: behind a fault of the desk nothing more can fail, so that it is told as one.
+    let name = Word::new(alloc, path)?;
     match desk.put(alloc, path, text) {
         Ok(()) => Ok(()),
-        Err(DeskFault::Failed) => Err(WriteStop::Put(Word::new(alloc, path)?)),
+        Err(DeskFault::Failed) => Err(WriteStop::Put(name)),
         Err(_) => Err(WriteStop::NoMemory),
     }
 }

@@ -6,7 +6,7 @@ ghost use Rattle.run_task.specs.declared.task.Task.TheVariants as tasks;
 ghost use Rattle.proof_log.specs.Lines.{learnt_in};
 ghost use Rattle.run_task.specs.Answer.TheVariants as best;
 ghost use Rattle.run_output.specs.Evidence.{evidence};
-ghost use Rattle.run_output.specs.Kept.{IsLogTo};
+ghost use Rattle.run_output.specs.Kept.{IsLogTo, IsReasonLogTo};
 ghost use Rattle.run_output.specs.Texts as texts;
 ghost use Rattle.run_output.specs.Told.{Tells};
 
@@ -30,7 +30,8 @@ pub struct Said {
 
 /// Of a lock file whose graph is valid.
 pub fn of_verdict(alloc: Global, numbers: &[u64]) -> Result<Said, AllocError>
-    ensures { IfOk result (λ said. Tells evidence (tasks.Report numbers.now) said.outcome said.text.items) }
+    ensures { IfOk result (λ said. Tells evidence (tasks.Report numbers.now) said.outcome
+        said.text.items) }
 {
     Ok(Said {
         text: verdict_text(alloc, numbers)?,
@@ -74,8 +75,8 @@ fn explanation_text(
 {
     match explanation {
         Explanation::Satisfiable => satisfiable_text(alloc),
-        Explanation::Unmet(demands) => write_reasons(alloc, problem, demands.as_slice()),
-        Explanation::Undecided => undecided_text(alloc, budget_of(problem)),
+        Explanation::Unmet { demands, .. } => write_reasons(alloc, problem, demands.as_slice()),
+        Explanation::Undecided { .. } => undecided_text(alloc, budget_of(problem)),
     }
 }
 
@@ -84,28 +85,44 @@ fn explanation_outcome(explanation: &Explanation) -> Outcome
 {
     match explanation {
         Explanation::Satisfiable => Outcome::Solved,
-        Explanation::Unmet(_) => Outcome::Unsolved,
-        Explanation::Undecided => Outcome::Undecided,
+        Explanation::Unmet { .. } => Outcome::Unsolved,
+        Explanation::Undecided { .. } => Outcome::Undecided,
     }
 }
 
-/// Of whether there is a graph, and why there is none.
+/// The log on which it rests; no line where there is a graph.
+fn explanation_log(alloc: Global, explanation: Explanation) -> Log
+    ensures { result ≡ texts.explanation_log explanation }
+{
+    match explanation {
+        Explanation::Satisfiable => Log::new(alloc),
+        Explanation::Unmet { log, .. } => log,
+        Explanation::Undecided { log } => log,
+    }
+}
+
+/// Of whether there is a graph, and why there is none, of which the log is kept.
 pub fn of_reasons<P: Progress>(
     alloc: Global,
     input: &Input,
+    kept: &mut Log,
     progress: &mut P,
 ) -> Result<Said, AllocError>
-    requires { IsReadyInput input.now }
-    ensures { IfOk result (λ said. Tells evidence (tasks.Explain input.now) said.outcome said.text.items) }
+    requires ready { IsReadyInput input.now }
+    requires empty { kept.old ≡ [] }
+    ensures said { IfOk result (λ said. Tells evidence (tasks.Explain input.now) said.outcome
+        said.text.items) }
+    ensures kept { IfOk result (λ said. IsReasonLogTo input.now.problem said.outcome
+        said.text.items kept.new) }
+    ensures short { OnErr result (kept.new ≡ []) }
 {
     let problem = &input.problem;
     let budget = budget_of(problem);
     let explanation = explain(alloc, problem, &input.closure, budget, progress)?;
     let text = explanation_text(alloc, problem, &explanation)?;
-    Ok(Said {
-        text,
-        outcome: explanation_outcome(&explanation),
-    })
+    let outcome = explanation_outcome(&explanation);
+    *kept = explanation_log(alloc, explanation);
+    Ok(Said { text, outcome })
 }
 
 // ---- trials
@@ -188,8 +205,10 @@ pub fn of_trial<P: Progress>(
 ) -> Result<Said, AllocError>
     requires ready { IsReadyInput input.now }
     requires empty { kept.old ≡ [] }
-    ensures said { IfOk result (λ said. Tells evidence (tasks.Try input.now) said.outcome said.text.items) }
-    ensures kept { IfOk result (λ said. IsLogTo input.now.problem said.outcome kept.new) }
+    ensures said { IfOk result (λ said. Tells evidence (tasks.Try input.now) said.outcome
+        said.text.items) }
+    ensures kept { IfOk result (λ said. IsLogTo input.now.problem said.outcome
+        said.text.items kept.new) }
     ensures short { OnErr result (kept.new ≡ []) }
 {
     let answer = find(alloc, input, progress)?;

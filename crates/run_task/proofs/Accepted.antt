@@ -80,6 +80,7 @@ module _ (accepts : AcceptsLines) (written : AnswersWritten) (s : Clauses) (bits
       ap (λ (o : Option CheckerState). or_refuse (refusals.BadCertificate 1 faults.WrongBit) o >>= λ s. said_at files path s) begin
       ∙ said_file files path holds
 
+-- the log of a best graph that `concretize` wrote is accepted by `check`
 pub best_accepted : AcceptsLines → AnswersWritten → BestIsCertified → BestIsAccepted
 best_accepted accepts written certified problem budget graph log answer kept files path holds =
     let e = encoding_of problem in
@@ -87,7 +88,9 @@ best_accepted accepts written certified problem budget graph log answer kept fil
     accepted_by accepts written e.clauses e.bits.lits log kept answer.writable (Some values) certifies problem files path holds
     (Some (vector problem graph)) (ap (option_map (λ v. begun e.clauses e.bits.lits (Some v))) spelled)
 
+-- the log of none is accepted by `refute`
 pub nothing_accepted : AcceptsLines → AnswersWritten → NothingIsRefuted → NothingIsAccepted
 nothing_accepted accepts written refuted problem budget log answer kept files path holds =
-    accepted_by accepts written (rule_clauses problem) [] log kept answer.writable None (refuted problem budget log answer) problem files path
+    accepted_by accepts written (rule_clauses problem) [] log kept answer.writable None (refuted problem budget log answer)
+    problem files path
     holds None refl

@@ -1,5 +1,5 @@
 -- The checks of the roots by themselves, one after the other.
-use Rattle.std.proofs.Common.{◌≡◌, refl, sym, ap, ◌∙◌, ⊎_elim, ◌⊎◌, inl, inr, ℕ, ◌+◌, ◌<◌, arith, List, [], ◌∷◌, ◌++◌, length, take, drop, get_or, Option, Some, None, IfSome, Result, Ok, Err}
+use Rattle.std.proofs.Common.{◌≡◌, refl, sym, ap, subst, ◌∙◌, inl, inr, ℕ, ◌+◌, ◌<◌, arith, List, [], ◌∷◌, ◌++◌, length, take, drop, get_or, Option, Some, None, IfSome, Result, Ok, Err}
 use Rattle.std.specs.Prelude.{slice_get}
 use Rattle.std.proofs.lemmas.List.{drop_more, take_more, length-take-le, take_all}
 use Rattle.std.proofs.lemmas.Option.{get_or_from_slice_get, slice_get_within}
@@ -12,10 +12,11 @@ use Rattle.run_input.specs.ReadStop.TheVariants.{Refused, Fault, NoMemory}
 use Rattle.run_input.specs.Stages.{InRoot, Then}
 use Rattle.run_input.specs.Stops.{Gives, stop_in_root}
 use Rattle.run_task.specs.Certificates.{log_verdict}
-use Rattle.run_task.specs.Places.{FailsAtRoots, IsOfRoots, cert_at, lock_at}
+use Rattle.run_task.specs.Looks.{FailsAtCheck, FailsAtRoots}
+use Rattle.run_task.specs.Places.{cert_at, lock_at}
 use Rattle.run_task.specs.Problems.{Problem}
 use Rattle.run_task.specs.Shown.{AreBestLocks, IsBestLock}
-use Rattle.run_task.specs.Tasks.{CheckOf, ChecksOf, FailsAtEither}
+use Rattle.run_task.specs.Tasks.{CheckOf, ChecksOf}
 use Rattle.run_task.specs.declared.task.Task.{Task}
 use Rattle.run_task.specs.declared.task.Task.TheVariants as tasks
 
@@ -54,16 +55,12 @@ module _ (dir lock cert : List ℕ) (root : ℕ) (at_lock : lock ≡ lock_at dir
   check_seen (Some files) problem seen = rw at_lock at seen
 
   -- a device fails only there
-  pub stop_path : (count : ℕ) (stop told : ReadStop) → told ≡ stop_in_root root stop → root < count
-      → FailsAtEither {A = Task} lock cert (Err stop) → FailsAtRoots {A = Task} dir count (Err told)
-  stop_path count (Refused refusal) told is within there = rw is tt
-  stop_path count (Fault path) told is within there =
-      rw is (record {
-        root = root;
-        within = within;
-        is_path = ⊎_elim (λ (same : path ≡ lock). inl (same ∙ at_lock)) (λ (same : path ≡ cert). inr (same ∙ at_cert)) there;
-      })
-  stop_path count NoMemory told is within there = rw is tt
+  pub stop_path : (before : Option Files) (problem : Problem) (stop told : ReadStop) → told ≡ stop_in_root root stop
+      → FailsAtCheck {A = Task} before lock cert problem (Err stop)
+      → FailsAtCheck {A = Task} before (lock_at dir root) (cert_at dir root) problem (Err told)
+  stop_path before problem (Refused refusal) told is there = rw is tt
+  stop_path before problem (Fault path) told is there = rw is (rw (at_lock, at_cert) at there)
+  stop_path before problem NoMemory told is there = rw is tt
 
 -- a fault of a device stays one
 pub stop_reads : {D : Type 0} (files : D → Option Files) (faults puts : D → ℕ) (before after : D) (root : ℕ) (stop told : ReadStop)
@@ -95,6 +92,7 @@ RestIs files dir place problems = (r : Result Task Refusal) → ChecksOf log_ver
     → ChecksOf log_verdict files dir 0 problems r
 
 module _ (before : Option Files) (dir : List ℕ) (place : ℕ) (problems : List Problem) where
+  -- one more root was accepted
   pub rest_next : (one : Problem) (task : Task) → slice_get problems place ≡ Some one
       → IfSome before (λ files. Gives (Ok task) (CheckAt files dir place one)) → IfSome before (λ files. RestIs files dir place problems)
       → IfSome before (λ files. RestIs files dir (place + 1) problems)
@@ -106,6 +104,7 @@ module _ (before : Option Files) (dir : List ℕ) (place : ℕ) (problems : List
       over (Some files) here so_far = λ r rest.
           so_far r (rw (drop_at problems place one is) (then_more files dir place one (drop (place + 1) problems) task here r rest))
 
+  -- a root stopped the checks
   pub rest_stopped : (one : Problem) (stop : ReadStop) → slice_get problems place ≡ Some one
       → IfSome before (λ files. Gives {T = Task} (Err stop) (CheckAt files dir place one))
       → IfSome before (λ files. RestIs files dir place problems)
@@ -120,6 +119,7 @@ module _ (before : Option Files) (dir : List ℕ) (place : ℕ) (problems : List
       over (Some files) (Fault path) here so_far = tt
       over (Some files) NoMemory here so_far = tt
 
+  -- all roots were accepted
   pub rest_done : place ≡ length problems → IfSome before (λ files. RestIs files dir place problems)
       → IfSome before (λ files. Gives (Ok tasks.Accepted) (ChecksOf log_verdict files dir 0 problems))
   rest_done all so_far = over before so_far
@@ -145,6 +145,7 @@ best_behind files dir from (p ∷ front) one before here =
     (before.0, best_behind files dir (from + 1) front one before.1 (rw there at here))
 
 module _ (before : Option Files) (dir : List ℕ) (place : ℕ) (problems : List Problem) where
+  -- one more lock file is the best
   pub best_next : (one : Problem) → slice_get problems place ≡ Some one → IfSome before (λ files. IsBestLock files (lock_at dir place) one)
       → IfSome before (λ files. AreBestLocks files dir 0 (take place problems))
       → IfSome before (λ files. AreBestLocks files dir 0 (take (place + 1) problems))
@@ -160,11 +161,30 @@ module _ (before : Option Files) (dir : List ℕ) (place : ℕ) (problems : List
           let long : 0 + length (take place problems) ≡ place = omega (arith, front) in
           rw (take_at problems place one is) (best_behind files dir 0 (take place problems) one so_far (rw long here))
 
+  -- behind the last root all are
   pub best_done : place ≡ length problems → IfSome before (λ files. AreBestLocks files dir 0 (take place problems))
       → IfSome before (λ files. AreBestLocks files dir 0 problems)
   best_done all so_far = rw (take_all place problems (omega (arith, all))) at so_far
 
+-- before the first root none has to be
 pub best_none : (before : Option Files) (dir : List ℕ) (problems : List Problem)
     → IfSome before (λ files. AreBestLocks files dir 0 (take 0 problems))
 best_none None dir problems = tt
 best_none (Some files) dir problems = tt
+
+-- ---- where a device fails
+
+-- at the files of one of them, behind those before
+pub root_failed : (told : Option Files) (dir : List ℕ) (place : ℕ) (problems : List Problem) (one : Problem) (stop : ReadStop)
+    → slice_get problems place ≡ Some one → IfSome told (λ files. AreBestLocks files dir 0 (take place problems))
+    → FailsAtCheck {A = Task} told (lock_at dir place) (cert_at dir place) one (Err stop)
+    → FailsAtRoots {A = Task} told dir problems (Err stop)
+root_failed told dir place problems one (Refused refusal) is best there = tt
+root_failed told dir place problems one (Fault path) is best there = record {
+  root = place;
+  problem = one;
+  here = is;
+  before = best;
+  inside = there;
+}
+root_failed told dir place problems one NoMemory is best there = tt

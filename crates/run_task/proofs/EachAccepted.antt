@@ -12,6 +12,7 @@ use Rattle.run_task.specs.Places.{cert_at, lock_at}
 use Rattle.run_task.specs.Tasks.{ChecksOf}
 use Rattle.run_task.specs.declared.task.Task.TheVariants as tasks
 
+-- what `each` wrote is accepted by `check_each`, if so it is of one root
 pub each_accepted : BestIsAccepted → EachIsAccepted
 each_accepted best files dir budget root [] [] written = refl
 each_accepted best files dir budget root [] (answer ∷ found) written = absurd written

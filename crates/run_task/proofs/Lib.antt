@@ -11,6 +11,7 @@ pub mod Once
 pub mod Paths
 pub mod RootTexts
 pub mod Stops
+mod SeenTasks
 mod Weaker
 pub use Rattle.run_input.proofs.StageLaws
 pub mod OneRoot

@@ -19,7 +19,8 @@ use Rattle.run_task.specs.declared.pieces.Next.TheVariants.{More, End, Long}
 use Rattle.run_task.proofs.Reading.{at_end, piece_settled, piece_open, piece_long}
 
 -- a piece without bytes lies behind the file's end
-behind : (file : List ℕ) (from : ℕ) (out : List ℕ) (count : ℕ) → IsPiece file from out count → count ≡ 0 → 0 < length out → length file ≤ from
+behind : (file : List ℕ) (from : ℕ) (out : List ℕ) (count : ℕ) → IsPiece file from out count → count ≡ 0 → 0 < length out
+    → length file ≤ from
 behind file from out count piece none room = not_before (cases_lt from (length file))
   where
     not_before : (from < length file) ⊎ (length file ≤ from) → length file ≤ from
@@ -49,7 +50,8 @@ module _ (path out : List ℕ) (from count : ℕ) (old : Stage) where
         → (s : CheckerState)
         → TakesNext s file from path old new (Ok End)
     settled_here settled None piece s = absurd piece
-    settled_here settled (Some file) piece s = λ ready. piece_settled s file out from count taken old new ready piece is_taken fed_piece settled
+    settled_here settled (Some file) piece s =
+        λ ready. piece_settled s file out from count taken old new ready piece is_taken fed_piece settled
 
     -- what was taken decides
     pub next_settled : (before : Option Files) → is_settled new ≡ true
@@ -105,11 +107,6 @@ abbrev pub CarriesAt : Option Files → List ℕ → ℕ → Stage → Stage →
 CarriesAt before path from old new =
     IfSome before (λ files. (s : CheckerState) (file : List ℕ) → get files path ≡ Some file → Carries s file from old new)
 
--- at the begin of the file
-pub carries_none : (before : Option Files) (path : List ℕ) (old : Stage) → CarriesAt before path 0 old old
-carries_none None path old = tt
-carries_none (Some files) path old = λ s file is ready. ready
-
 module _ (path : List ℕ) (from : ℕ) (old between new : Stage) where
   -- one piece more
   pub carries_more : (before : Option Files) (place : ℕ) → CarriesAt before path from old between
@@ -144,23 +141,19 @@ module _ (path : List ℕ) (from : ℕ) (old between new : Stage) where
   all_stopped None stop takes = tt
   all_stopped (Some files) stop takes = λ s. stopped_here (get files path) s stop (takes s)
 
--- what was taken, of the desk as it was at first, by what it is
-pub at_next : (before now : Option Files) (path : List ℕ) (from : ℕ) (old new : Stage) (given next : Next) → now ≡ before → given ≡ next
-    → IfSome now (λ files. (s : CheckerState) → TakesNext s (get files path) from path old new (Ok given))
-    → IfSome before (λ files. (s : CheckerState) → TakesNext s (get files path) from path old new (Ok next))
-at_next before now path from old new given next same is taken =
-    subst (λ (n : Next). IfSome before (λ files. (s : CheckerState) → TakesNext s (get files path) from path old new (Ok n))) is
-    (subst (λ (fs : Option Files). IfSome fs (λ files. (s : CheckerState) → TakesNext s (get files path) from path old new (Ok given))) same
-    taken)
+-- what was taken, by what it is
+pub at_next : (told : Option Files) (path : List ℕ) (from : ℕ) (old new : Stage) (given next : Next) → given ≡ next
+    → IfSome told (λ files. (s : CheckerState) → TakesNext s (get files path) from path old new (Ok given))
+    → IfSome told (λ files. (s : CheckerState) → TakesNext s (get files path) from path old new (Ok next))
+at_next told path from old new given next is taken =
+    subst (λ (n : Next). IfSome told (λ files. (s : CheckerState) → TakesNext s (get files path) from path old new (Ok n))) is taken
 
 -- and of a stop
-pub at_stop : (before now : Option Files) (path : List ℕ) (from : ℕ) (old new : Stage) (given stop : ReadStop) → now ≡ before → given ≡ stop
-    → IfSome now (λ files. (s : CheckerState) → TakesNext s (get files path) from path old new (Err given))
-    → IfSome before (λ files. (s : CheckerState) → TakesNext s (get files path) from path old new (Err stop))
-at_stop before now path from old new given stop same is taken =
-    subst (λ (n : ReadStop). IfSome before (λ files. (s : CheckerState) → TakesNext s (get files path) from path old new (Err n))) is
-    (subst (λ (fs : Option Files). IfSome fs (λ files. (s : CheckerState) → TakesNext s (get files path) from path old new (Err given)))
-    same taken)
+pub at_stop : (told : Option Files) (path : List ℕ) (from : ℕ) (old new : Stage) (given stop : ReadStop) → given ≡ stop
+    → IfSome told (λ files. (s : CheckerState) → TakesNext s (get files path) from path old new (Err given))
+    → IfSome told (λ files. (s : CheckerState) → TakesNext s (get files path) from path old new (Err stop))
+at_stop told path from old new given stop is taken =
+    subst (λ (n : ReadStop). IfSome told (λ files. (s : CheckerState) → TakesNext s (get files path) from path old new (Err n))) is taken
 
 -- ---- what all pieces say of the file
 
@@ -229,6 +222,7 @@ module _ (path : List ℕ) (s : CheckerState) (old new : Stage) (after : IsAfter
 
 -- ---- by the answer of all pieces
 
+-- what was decided is what was given
 pub all_by : (before : Option Files) (path : List ℕ) (old new : Stage) (given decided : Bool) → given ≡ decided
     → IfSome before (λ files. (s : CheckerState) → TakesAll s (get files path) path old new (Ok given))
     → IfSome before (λ files. (s : CheckerState) → TakesNext s (get files path) 0 path old new (Ok (end_of decided)))

@@ -1,7 +1,7 @@
 -- The words name one task at most.
 use Rattle.std.proofs.Common.{◌≡◌, sym, subst, ◌∙◌, ℕ, ◌+◌, Bool, true, false, List, [], ◌∷◌, Option, Some, None, Result, Ok, Err}
 use Rattle.outside_desk.specs.Files.{Files}
-use Rattle.run_task.specs.Problems.{Problem, apart}
+use Rattle.run_task.specs.Problems.{Problem, each_alone}
 use Rattle.run_task.specs.Places.{cert_at, lock_at}
 use Rattle.run_input.specs.Stages.{Is, InRoot}
 use Rattle.run_input.proofs.StageLaws.{IsOne, one_is, one_then}
@@ -20,9 +20,11 @@ use Rattle.run_task.specs.declared.task.Task.TheVariants as tasks
 abbrev OneVerdict : Type 0
 OneVerdict = (files : Files) (path : List ℕ) (problem : Problem) → IsOne (Judges files path problem)
 
-one_acceptance : (files : Files) (cert : List ℕ) (problem : Problem) (numbers : Option (List ℕ)) → IsOne (AcceptanceOf log_verdict files cert problem numbers)
+one_acceptance : (files : Files) (cert : List ℕ) (problem : Problem) (numbers : Option (List ℕ))
+    → IsOne (AcceptanceOf log_verdict files cert problem numbers)
 one_acceptance files cert problem numbers =
-    one_then (Is (certified_at files cert problem numbers)) (λ done. Is (Ok tasks.Accepted)) (one_is (certified_at files cert problem numbers))
+    one_then (Is (certified_at files cert problem numbers)) (λ done. Is (Ok tasks.Accepted))
+    (one_is (certified_at files cert problem numbers))
     (λ done. one_is (Ok tasks.Accepted))
 
 -- of a lock file there is one graph at most
@@ -43,7 +45,8 @@ one_check one_verdict files lock cert problem =
     (one_verdict files lock problem) (λ numbers. one_acceptance files cert problem (Some numbers))
 
 -- all roots, each by itself
-one_checks : OneVerdict → (files : Files) (dir : List ℕ) (root : ℕ) (problems : List Problem) → IsOne (ChecksOf log_verdict files dir root problems)
+one_checks : OneVerdict → (files : Files) (dir : List ℕ) (root : ℕ) (problems : List Problem)
+    → IsOne (ChecksOf log_verdict files dir root problems)
 one_checks one_verdict files dir root [] = one_is (Ok tasks.Accepted)
 one_checks one_verdict files dir root (problem ∷ more) =
     one_then (InRoot root (CheckOf log_verdict files (lock_at dir root) (cert_at dir root) problem))
@@ -52,7 +55,8 @@ one_checks one_verdict files dir root (problem ∷ more) =
     (one_check one_verdict files (lock_at dir root) (cert_at dir root) problem))
     (λ done. one_checks one_verdict files dir (root + 1) more)
 
-one_by : OneVerdict → OneGraph → (work : Work) (files : Files) (command : Command) (input : Input) → IsOne (TaskBy log_verdict work files command input)
+one_by : OneVerdict → OneGraph → (work : Work) (files : Files) (command : Command) (input : Input)
+    → IsOne (TaskBy log_verdict work files command input)
 one_by one_verdict one_graph works.Concretize files command input = one_is (Ok (tasks.Solve input))
 one_by one_verdict one_graph works.Judge files command input =
     one_then (Judges files command.lock input.problem) (λ numbers. Is (Ok (tasks.Report numbers)))
@@ -69,7 +73,7 @@ one_by one_verdict one_graph works.Plan files command input =
 one_by one_verdict one_graph works.Find files command input = λ a b one other. absurd one
 one_by one_verdict one_graph works.Refute files command input = one_acceptance files command.cert input.problem None
 one_by one_verdict one_graph works.Each files command input = one_is (Ok (tasks.Each input))
-one_by one_verdict one_graph works.CheckEach files command input = one_checks one_verdict files command.lock 0 (apart input.problem)
+one_by one_verdict one_graph works.CheckEach files command input = one_checks one_verdict files command.lock 0 (each_alone input.problem)
 one_by one_verdict one_graph works.Explain files command input = one_is (Ok (tasks.Explain input))
 one_by one_verdict one_graph works.Reasons files command input = one_is (Ok (tasks.Reasons input))
 one_by one_verdict one_graph (works.Trial packages seed) files command input = one_is (Ok (tasks.Try input))
@@ -81,7 +85,8 @@ module _ (one_read : (files : Files) (command : Command) → IsOne (ReadsInput f
     (one_query : (files : Files) (command : Command) → IsOne (Seeks files command)) (one_verdict : OneVerdict) (one_graph : OneGraph) where
   one_over : (search : Bool) (files : Files) (command : Command) → IsOne (OverUnless log_verdict search files command)
   one_over true files command =
-      one_then (Seeks files command) (λ query. Is (Ok (tasks.Find query))) (one_query files command) (λ query. one_is (Ok (tasks.Find query)))
+      one_then (Seeks files command) (λ query. Is (Ok (tasks.Find query))) (one_query files command)
+      (λ query. one_is (Ok (tasks.Find query)))
   one_over false files command =
       one_then (ReadsInput files command) (TaskBy log_verdict command.work files command) (one_read files command)
       (one_by one_verdict one_graph command.work files command)

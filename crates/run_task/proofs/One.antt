@@ -31,15 +31,19 @@ one_lock laws files path = one_then (Is (lock_bytes files path)) LockIn (one_is 
 
 one_named : ReadsOnce → (files : Files) (path : List ℕ) (problem : Problem) → IsOne (NamedAt files path problem)
 one_named laws files path problem =
-    one_then (LockAt files path) (λ lock. Is (Ok (named_lock problem lock))) (one_lock laws files path) (λ lock. one_is (Ok (named_lock problem lock)))
+    one_then (LockAt files path) (λ lock. Is (Ok (named_lock problem lock))) (one_lock laws files path)
+    (λ lock. one_is (Ok (named_lock problem lock)))
 
 -- of a lock file one thing is said at most
 pub one_verdict : ReadsOnce → (files : Files) (path : List ℕ) (problem : Problem) → IsOne (Judges files path problem)
 one_verdict laws files path problem =
-    one_then (NamedAt files path problem) (λ lock. Is (judged problem lock)) (one_named laws files path problem) (λ lock. one_is (judged problem lock))
+    one_then (NamedAt files path problem) (λ lock. Is (judged problem lock)) (one_named laws files path problem)
+    (λ lock. one_is (judged problem lock))
 
 -- and of its graph
 pub one_graph : ReadsOnce → (files : Files) (path : List ℕ) (problem : Problem) → IsOne (GraphAt files path problem)
 one_graph laws files path problem =
-    one_then (NamedAt files path problem) (λ lock. Then (Is (judged problem lock)) (λ numbers. Is (Ok lock.graph))) (one_named laws files path problem)
-    (λ lock. one_then (Is (judged problem lock)) (λ numbers. Is (Ok lock.graph)) (one_is (judged problem lock)) (λ numbers. one_is (Ok lock.graph)))
+    one_then (NamedAt files path problem) (λ lock. Then (Is (judged problem lock)) (λ numbers. Is (Ok lock.graph)))
+    (one_named laws files path problem)
+    (λ lock. one_then (Is (judged problem lock)) (λ numbers. Is (Ok lock.graph)) (one_is (judged problem lock))
+    (λ numbers. one_is (Ok lock.graph)))

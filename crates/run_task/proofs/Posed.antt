@@ -22,7 +22,7 @@ use Rattle.run_task.specs.Certificates.{log_verdict}
 use Rattle.run_task.specs.Tasks.{ChecksOf, HasRoots, IsOf, Named, OverUnless, TaskBy, files_for, is_search}
 use Rattle.run_task.specs.declared.task.Task.{Task}
 use Rattle.run_task.specs.declared.task.Task.TheVariants as tasks
-use Rattle.run_task.proofs.Stops.{is_find}
+use Rattle.run_task.proofs.SeenTasks.{is_find}
 
 abbrev SameOk : {A : Type 0} → A → A → Type 0
 SameOk {A} x y = let T : Type 0 = Result A Refusal in let a : T = Ok x in let b : T = Ok y in a ≡ b
@@ -64,7 +64,8 @@ posed_of files command task named = of_over (is_search command.work) (files_for 
 
 -- ---- its roots
 
-unrefused : (problem given : Problem) (fault : Option ProblemFault) → (let T : Type 0 = Result Problem Refusal in let a : T = Ok problem in a ≡ unless_refused given fault)
+unrefused : (problem given : Problem) (fault : Option ProblemFault)
+    → (let T : Type 0 = Result Problem Refusal in let a : T = Ok problem in a ≡ unless_refused given fault)
     → problem ≡ given
 unrefused problem given None is = ok_same problem given is
 unrefused problem given (Some faults.OutOfMemory) is = ok_same problem given is
@@ -84,7 +85,8 @@ unfolding posed_by closed_of
 roots_read files command input (stock, there, (roots, read, (problem, posed, closed))) =
     let one = unrefused problem _ _ posed in
     let other = unchecked input (input_of problem) (nat_le (length (closure_of problem)) 1024) closed in
-    subst (λ (rs : List Spec). RootsOf command.spec (Ok rs)) (sym (ap (λ (i : Input). i.problem.roots) other ∙ ap (λ (p : Problem). p.roots) one)) read
+    subst (λ (rs : List Spec). RootsOf command.spec (Ok rs))
+    (sym (ap (λ (i : Input). i.problem.roots) other ∙ ap (λ (p : Problem). p.roots) one)) read
 
 is_each : (work : Work) (input : Input) → IsOf work (tasks.Each input) → work ≡ works.Each
 is_each works.Each input of = refl
@@ -114,5 +116,6 @@ roots_over false files command task (input, read, done) =
     roots_of_work command.work files command input task (roots_read files command input read) done
     (of_work command.work files command input task done)
 
+-- the task that a command poses has the roots of its words
 pub posed_roots : (files : Files) (command : Command) (task : Task) → Named log_verdict files command (Ok task) → HasRoots command.spec task
 posed_roots files command task named = roots_over (is_search command.work) (files_for command.work files) command task named

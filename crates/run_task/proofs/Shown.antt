@@ -68,8 +68,10 @@ logged_at tells files path s bits values ordered e =
 
 -- ---- what a log shows
 
+-- of a refutation of the rules
 pub shown_none : (problem : Problem) → RefutedHasNoGraph → RulesDecode problem → AllClauses (clauses_of (rule_clauses problem).entries)
-    → (lines : List Line) × IsLogOf (rule_clauses problem).vars (clauses_of (rule_clauses problem).entries) [] None lines → ShowsOf problem None
+    → (lines : List Line) × IsLogOf (rule_clauses problem).vars (clauses_of (rule_clauses problem).entries) [] None lines
+    → ShowsOf problem None
 shown_none problem law decodes ordered (lines, log) = law problem lines decodes ordered log
 
 -- of a certificate of costs
@@ -105,7 +107,8 @@ module _ (path : List ℕ) (problem : Problem) (numbers : Option (List ℕ)) (be
       (Err (Refused (refusals.BadCertificate 1 faults.WrongBit))) (Is (certified_at files path problem numbers)))
   certificate_unspelled is = refused_over before
     where
-      refused_over : (o : Option Files) → IfSome o (λ files. Gives {T = Unit {0}} (Err (Refused (refusals.BadCertificate 1 faults.WrongBit)))
+      refused_over : (o : Option Files) → IfSome o
+          (λ files. Gives {T = Unit {0}} (Err (Refused (refusals.BadCertificate 1 faults.WrongBit)))
           (Is (certified_at files path problem numbers)))
       refused_over None = tt
       refused_over (Some files) = begun_as files None is

@@ -34,7 +34,8 @@ weighed_ok : (problem : Problem) (graph : Content) (numbers : List ℕ) → weig
 unfolding weighed
 weighed_ok problem graph numbers e = by_verdict (verdict problem graph) (vector problem graph) numbers e
 
-by_roots : (same : Bool) (more : Result (List ℕ) Refusal) (numbers : List ℕ) → (check refusals.OtherRoots same >>= λ done. more) ≡ Ok numbers
+by_roots : (same : Bool) (more : Result (List ℕ) Refusal) (numbers : List ℕ)
+    → (check refusals.OtherRoots same >>= λ done. more) ≡ Ok numbers
     → (same ≡ true) × (more ≡ Ok numbers)
 by_roots true more numbers e = (refl, e)
 by_roots false more numbers e = absurd (cc)
@@ -70,13 +71,15 @@ by_files (Some files) path problem lock numbers at is = record { lock = lock; at
 
 -- the file at the path is such a lock file
 pub valid_lock : (before : Option Files) (path : List ℕ) (problem : Problem) (lock : Lock) (result : Result (List ℕ) ReadStop)
-    → IfSome before (λ files. Gives {T = Lock} (Ok lock) (NamedAt files path problem)) → IfOk result (λ numbers. IsRight problem lock numbers)
+    → IfSome before (λ files. Gives {T = Lock} (Ok lock) (NamedAt files path problem))
+    → IfOk result (λ numbers. IsRight problem lock numbers)
     → IfOk result (λ numbers. IfSome before (λ files. IsValidLock files path problem numbers))
 valid_lock before path problem lock (Ok numbers) at is = by_files before path problem lock numbers at is
 valid_lock before path problem lock (Err stop) at is = tt
 
 -- some valid graph has the costs: that of the lock file
-pub has_costs : (problem : Problem) (lock : Lock) (result : Result (List ℕ) ReadStop) → IfOk result (λ numbers. IsRight problem lock numbers)
+pub has_costs : (problem : Problem) (lock : Lock) (result : Result (List ℕ) ReadStop)
+    → IfOk result (λ numbers. IsRight problem lock numbers)
     → IfOk result (λ numbers. HasCosts problem numbers)
 has_costs problem lock (Ok numbers) is =
     record { graph = lock.graph; well_formed = is.well_formed; is_valid = is.is_valid; costs = is.costs }
@@ -86,14 +89,16 @@ has_costs problem lock (Err stop) is = tt
 
 -- where it is judged right
 pub graph_read : (before : Option Files) (path : List ℕ) (problem : Problem) (lock : Lock) (numbers : List ℕ)
-    → IfSome before (λ files. Gives {T = Lock} (Ok lock) (NamedAt files path problem)) → Gives {T = List ℕ} (Ok numbers) (Is (judged problem lock))
+    → IfSome before (λ files. Gives {T = Lock} (Ok lock) (NamedAt files path problem))
+    → Gives {T = List ℕ} (Ok numbers) (Is (judged problem lock))
     → IfSome before (λ files. Gives {T = Content} (Ok lock.graph) (GraphAt files path problem))
 graph_read None path problem lock numbers at is = tt
 graph_read (Some files) path problem lock numbers at is = (lock, at, (numbers, is, refl))
 
 -- where it is refused
 pub graph_stopped : (before : Option Files) (path : List ℕ) (problem : Problem) (lock : Lock) (stop : ReadStop)
-    → IfSome before (λ files. Gives {T = Lock} (Ok lock) (NamedAt files path problem)) → Gives {T = List ℕ} (Err stop) (Is (judged problem lock))
+    → IfSome before (λ files. Gives {T = Lock} (Ok lock) (NamedAt files path problem))
+    → Gives {T = List ℕ} (Err stop) (Is (judged problem lock))
     → IfSome before (λ files. Gives {T = Content} (Err stop) (GraphAt files path problem))
 graph_stopped None path problem lock stop at is = tt
 graph_stopped (Some files) path problem lock stop at is =

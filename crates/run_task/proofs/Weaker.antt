@@ -8,7 +8,7 @@ use Rattle.run_input.specs.Work.{Work}
 use Rattle.run_input.specs.Work.TheVariants as works
 use Rattle.run_input.specs.Inputs.{ReadsInput}
 use Rattle.run_input.specs.declared.input.Input.{Input}
-use Rattle.run_task.specs.Problems.{Problem, apart}
+use Rattle.run_task.specs.Problems.{Problem, each_alone}
 use Rattle.run_task.specs.Places.{cert_at, lock_at}
 use Rattle.run_task.specs.Verdicts.{Judges}
 use Rattle.run_task.specs.CertificateVerdicts.{CertificateVerdicts, MayBeSaid, any_verdict, no_verdict}
@@ -33,14 +33,16 @@ module _ (some more : CertificateVerdicts) (allows : Allows some more) where
   accepts : (files : Files) (cert : List ℕ) (problem : Problem) (numbers : Option (List ℕ)) (r : Result Task Refusal)
       → AcceptanceOf some files cert problem numbers r → AcceptanceOf more files cert problem numbers r
   accepts files cert problem numbers =
-      then_more (some files cert problem numbers) (more files cert problem numbers) (λ done. Is (Ok tasks.Accepted)) (λ done. Is (Ok tasks.Accepted))
+      then_more (some files cert problem numbers) (more files cert problem numbers) (λ done. Is (Ok tasks.Accepted))
+      (λ done. Is (Ok tasks.Accepted))
       (allows files cert problem numbers) (λ done r is. is)
 
   checks : (files : Files) (lock cert : List ℕ) (problem : Problem) (r : Result Task Refusal)
       → CheckOf some files lock cert problem r → CheckOf more files lock cert problem r
   checks files lock cert problem =
       then_more (Judges files lock problem) (Judges files lock problem) (λ numbers. AcceptanceOf some files cert problem (Some numbers))
-      (λ numbers. AcceptanceOf more files cert problem (Some numbers)) (λ s judged. judged) (λ numbers. accepts files cert problem (Some numbers))
+      (λ numbers. AcceptanceOf more files cert problem (Some numbers)) (λ s judged. judged)
+      (λ numbers. accepts files cert problem (Some numbers))
 
   checks_in : (root : ℕ) (files : Files) (lock cert : List ℕ) (problem : Problem) (r : Result Task Refusal)
       → InRoot root (CheckOf some files lock cert problem) r → InRoot root (CheckOf more files lock cert problem) r
@@ -63,7 +65,7 @@ module _ (some more : CertificateVerdicts) (allows : Allows some more) where
   by_work works.Check files command input r is = checks files command.lock command.cert input.problem r is
   by_work works.Refute files command input r is = accepts files command.cert input.problem None r is
   by_work works.Each files command input r is = is
-  by_work works.CheckEach files command input r is = checks_all files command.lock 0 (apart input.problem) r is
+  by_work works.CheckEach files command input r is = checks_all files command.lock 0 (each_alone input.problem) r is
   by_work works.Explain files command input r is = is
   by_work works.Reasons files command input r is = is
   by_work works.Fresh files command input r is = is
@@ -75,7 +77,8 @@ module _ (some more : CertificateVerdicts) (allows : Allows some more) where
       → OverUnless more search files command r
   over true files command r is = is
   over false files command r is =
-      then_more (ReadsInput files command) (ReadsInput files command) (TaskBy some command.work files command) (TaskBy more command.work files command)
+      then_more (ReadsInput files command) (ReadsInput files command) (TaskBy some command.work files command)
+      (TaskBy more command.work files command)
       (λ s read. read) (by_work command.work files command) r is
 
   poses : (files : Files) (words : List (List ℕ)) (r : Result Task Refusal) → Poses some files words r → Poses more files words r

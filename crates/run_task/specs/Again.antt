@@ -40,12 +40,14 @@ BestIsAccepted = (problem : Problem) (budget : ℕ) (graph : Content) (log : Lis
 -- and the refutation of a problem without a graph
 abbrev pub NothingIsAccepted : Type 0
 NothingIsAccepted = (problem : Problem) (budget : ℕ) (log : List Line) → IsAnswer problem budget (Nothing log)
-    → AreKept (rule_clauses problem) log → (files : Files) (path : List ℕ) → HoldsLog files path log → certified_at files path problem None ≡ Ok tt
+    → AreKept (rule_clauses problem) log → (files : Files) (path : List ℕ) → HoldsLog files path log
+    → certified_at files path problem None ≡ Ok tt
 
 -- ---- each root by itself
 
 -- the files at the paths are those of a best graph that was written: its log, and a lock file of which is said that it has the graph's costs
-pub record IsWrittenBest (files : Files) (lock cert : List ℕ) (problem : Problem) (budget : ℕ) (graph : Content) (log : List Line) : Type 0 where
+pub record IsWrittenBest (files : Files) (lock cert : List ℕ) (problem : Problem) (budget : ℕ) (graph : Content)
+    (log : List Line) : Type 0 where
   pub answer : IsAnswer problem budget (Best graph log)
   pub kept : AreKept (encoding_of problem).clauses log
   pub judged : Judges files lock problem (Ok (vector problem graph))

@@ -21,6 +21,7 @@ pub mod Places
 pub mod Tasks
 pub mod Again
 pub mod Shown
+pub mod Looks
 pub use Rattle.run_input.specs.Exits
 pub use Rattle.run_input.specs.Lines
 pub use Rattle.run_input.specs.LockFault

@@ -7,7 +7,7 @@ use Rattle.lockfile.specs.declared.fault.LockFault.{LockFault}
 use Rattle.lockfile.specs.declared.fault.LockFault.TheVariants.{OutOfMemory}
 use Rattle.lockfile.specs.declared.lock.Lock.{Lock}
 use Rattle.problem.specs.Problems.{Problem}
-use Rattle.graph_rules.specs.Named.{named}
+use Rattle.graph_rules.specs.Named.{named_graph}
 use Rattle.run_input.specs.Bytes.{bytes_at}
 use Rattle.run_input.specs.declared.file.WholeFile.TheVariants as kinds
 use Rattle.run_input.specs.Stages.{Is, Then}
@@ -29,7 +29,7 @@ LockAt files path = Then (Is (lock_bytes files path)) LockIn
 
 -- the lock file, where each edge names its virtuals: in the format's first version none does, and they are found
 unfoldable pub named_lock : Problem → Lock → Lock
-named_lock problem lock = if lock.version == 1 then record lock { graph = named problem lock.graph } else lock
+named_lock problem lock = if lock.version == 1 then record lock { graph = named_graph problem lock.graph } else lock
 
 -- the lock file at the path, so
 abbrev pub NamedAt : Files → List ℕ → Problem → Result Lock Refusal → Type 0

@@ -1,9 +1,7 @@
 -- Where the files of one root of many stand.
-use Rattle.std.specs.Prelude.{◌≡◌, ◌⊎◌, ℕ, ◌<◌, List, [], ◌∷◌, codes, decimal, length, Result, Ok, Err}
+use Rattle.std.specs.Prelude.{◌≡◌, ◌⊎◌, ℕ, ◌<◌, List, [], ◌∷◌, codes, decimal, length, Ok}
 use Rattle.run_answers.specs.Lines.{joined_texts}
 use Rattle.spec_grammar.specs.declared.part.Spec.{Spec}
-use Rattle.run_input.specs.ReadStop.{ReadStop}
-use Rattle.run_input.specs.ReadStop.TheVariants as reads
 use Rattle.run_input.specs.Roots.{RootsOf}
 use Rattle.run_input.specs.Words.{Command}
 
@@ -26,8 +24,3 @@ pub record IsRootFile (command : Command) (path : List ℕ) : Type 0 where
   pub roots : List Spec
   pub read : RootsOf command.spec (Ok roots)
   pub inside : IsOfRoots command.lock (length roots) path
-
--- a device fails only while such a file is read
-abbrev pub FailsAtRoots : {A : Type 0} → List ℕ → ℕ → Result A ReadStop → Type 0
-FailsAtRoots dir count (Err (reads.Fault path)) = IsOfRoots dir count path
-FailsAtRoots dir count other = Unit {0}

@@ -10,7 +10,7 @@ use Rattle.run_input.specs.Work.{Work}
 use Rattle.run_input.specs.Work.TheVariants as works
 use Rattle.run_input.specs.Inputs.{ReadsInput}
 use Rattle.run_input.specs.declared.input.Input.{Input}
-use Rattle.run_task.specs.Problems.{Problem, apart}
+use Rattle.run_task.specs.Problems.{Problem, each_alone}
 use Rattle.run_task.specs.Places.{lock_at}
 use Rattle.run_task.specs.Verdicts.{IsValidLock}
 use Rattle.run_task.specs.Tasks.{files_for, is_search}
@@ -43,7 +43,7 @@ abbrev pub ShownBy : Work → Files → Command → Problem → Type 0
 ShownBy works.Check files command problem = IsBestLock files command.lock problem
 ShownBy works.Fresh files command problem = IsBestLock files command.lock problem
 ShownBy works.Refute files command problem = HasNoGraph problem
-ShownBy works.CheckEach files command problem = AreBestLocks files command.lock 0 (apart problem)
+ShownBy works.CheckEach files command problem = AreBestLocks files command.lock 0 (each_alone problem)
 ShownBy other files command problem = Unit {0}
 
 -- what its no shows
@@ -61,7 +61,7 @@ ComparesLock files path problem other = ⊥
 abbrev pub SeenBy : Work → Task → Files → Command → Problem → Type 0
 SeenBy works.Check task files command problem = IsBestLock files command.lock problem
 SeenBy works.Refute task files command problem = HasNoGraph problem
-SeenBy works.CheckEach task files command problem = AreBestLocks files command.lock 0 (apart problem)
+SeenBy works.CheckEach task files command problem = AreBestLocks files command.lock 0 (each_alone problem)
 SeenBy works.Fresh task files command problem = ComparesLock files command.lock problem task
 SeenBy other task files command problem = Unit {0}
 

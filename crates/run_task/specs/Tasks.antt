@@ -8,18 +8,16 @@ use Rattle.spec_grammar.specs.Canonical.{spec_text}
 use Rattle.spec_grammar.specs.declared.part.Spec.{Spec}
 use Rattle.run_input.specs.Stages.{Is, Then, InRoot}
 use Rattle.run_input.specs.Refusal.{Refusal}
-use Rattle.run_input.specs.ReadStop.{ReadStop}
-use Rattle.run_input.specs.ReadStop.TheVariants as reads
 use Rattle.run_input.specs.Words.{Command, command_of}
 use Rattle.run_input.specs.Work.{Work}
 use Rattle.run_input.specs.Work.TheVariants as works
-use Rattle.run_input.specs.Inputs.{ReadsInput, Seeks, IsInputPath, IsPosed}
+use Rattle.run_input.specs.Inputs.{ReadsInput, Seeks, IsPosed}
 use Rattle.run_input.specs.Roots.{RootsOf, ConditionOf}
 use Rattle.run_input.specs.declared.input.Input.{Input}
-use Rattle.run_task.specs.Problems.{Problem, apart}
+use Rattle.run_task.specs.Problems.{Problem, each_alone}
 use Rattle.run_task.specs.Verdicts.{GraphAt, HasCosts, Judges}
 use Rattle.run_task.specs.CertificateVerdicts.{CertificateVerdicts}
-use Rattle.run_task.specs.Places.{IsRootFile, cert_at, lock_at}
+use Rattle.run_task.specs.Places.{cert_at, lock_at}
 use Rattle.trial_input.specs.Inputs.{input_files}
 use Rattle.run_task.specs.declared.task.Task.{Task}
 use Rattle.run_task.specs.declared.task.Task.TheVariants as tasks
@@ -90,7 +88,7 @@ module _ (verdicts : CertificateVerdicts) where
   TaskBy works.Plan files command input = PlanOf files command.lock input.problem
   TaskBy works.Refute files command input = AcceptanceOf files command.cert input.problem None
   TaskBy works.Each files command input = Is (Ok (tasks.Each input))
-  TaskBy works.CheckEach files command input = ChecksOf files command.lock 0 (apart input.problem)
+  TaskBy works.CheckEach files command input = ChecksOf files command.lock 0 (each_alone input.problem)
   TaskBy works.Explain files command input = Is (Ok (tasks.Explain input))
   TaskBy works.Reasons files command input = Is (Ok (tasks.Reasons input))
   TaskBy works.Find files command input = λ posed. ⊥
@@ -180,30 +178,3 @@ HasSpecs command = HasSpecsBy (is_search command.work) command.spec
 abbrev pub HasRoots : List ℕ → Task → Type 0
 HasRoots text (tasks.Each input) = RootsOf text (Ok input.problem.roots)
 HasRoots text other = Unit {0}
-
--- ---- faults of devices
-
--- the lock file is read by `judge`, `check`, `fresh` and `plan`, the certificate by `check` and `refute`, and those of all roots by
--- `check_each`
-abbrev pub IsKeptPath : Work → Command → List ℕ → Type 0
-IsKeptPath works.Judge command path = path ≡ command.lock
-IsKeptPath works.Check command path = (path ≡ command.lock) ⊎ (path ≡ command.cert)
-IsKeptPath works.Fresh command path = path ≡ command.lock
-IsKeptPath works.Plan command path = path ≡ command.lock
-IsKeptPath works.Refute command path = path ≡ command.cert
-IsKeptPath works.CheckEach command path = IsRootFile command path
-IsKeptPath other command path = ⊥
-
--- what is read: the input, and what the command looks at besides
-abbrev pub IsTaskPath : Option Files → Command → List ℕ → Type 0
-IsTaskPath told command path = IsInputPath told command path ⊎ IsKeptPath command.work command path
-
--- a device fails only while such a path is read
-abbrev pub FailsAtTask : {A : Type 0} → Option Files → Command → Result A ReadStop → Type 0
-FailsAtTask told command (Err (reads.Fault path)) = IsTaskPath told command path
-FailsAtTask told command other = Unit {0}
-
--- a device fails only while one of these files is read
-abbrev pub FailsAtEither : {A : Type 0} → List ℕ → List ℕ → Result A ReadStop → Type 0
-FailsAtEither one other (Err (reads.Fault path)) = (path ≡ one) ⊎ (path ≡ other)
-FailsAtEither one other others = Unit {0}

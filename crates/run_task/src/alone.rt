@@ -1,7 +1,7 @@
 //! What is read, for one root by itself.
 
 ghost use Rattle.std.specs.Prelude.{◌≡◌, ◌<◌, IfOk, Some, length, slice_get};
-ghost use Rattle.problem.specs.Problems.{apart};
+ghost use Rattle.problem.specs.Problems.{each_alone};
 ghost use Rattle.run_input.specs.Inputs.{IsPosed};
 
 use possible_closure::{ClosureFault, alone_laws, closure};
@@ -14,7 +14,8 @@ use std::alloc::{AllocError, Global};
 pub fn alone_input(alloc: Global, input: &Input, place: usize) -> Result<Input, AllocError>
     requires posed { IsPosed input.now }
     requires within { place < length input.now.problem.roots }
-    ensures one { IfOk result (λ one. slice_get (apart input.now.problem) place ≡ Some one.problem) }
+    ensures one { IfOk result (λ one. slice_get (each_alone input.now.problem) place
+        ≡ Some one.problem) }
     ensures posed { IfOk result IsPosed }
 {
     alone_laws();

@@ -10,7 +10,7 @@ ghost use Rattle.possible_closure.specs.Closures.{closure_of};
 ghost use Rattle.best_graph.specs.OfProblemEncoding.Built.{encoding_of};
 ghost use Rattle.best_graph.specs.OfProblemEncoding.Encodings.{AreRules, IsEncoded, RulesDecode};
 ghost use Rattle.best_graph.specs.OfProblemEncoding.Kept.{has_right_values};
-ghost use Rattle.best_graph.specs.OfProblemEncoding.Limits.{is_within_limits};
+ghost use Rattle.best_graph.specs.OfProblemEncoding.Limits.{is_within_limits, most_names};
 ghost use Rattle.run_answers.specs.Stages.{Is};
 ghost use Rattle.run_answers.specs.Reads.{OnlyReads};
 ghost use Rattle.run_answers.specs.Stops.{Gives};
@@ -49,7 +49,7 @@ fn check_text<R: Threads + Sync, D: Desk>(
     checker: &mut TextChecker,
 ) -> Result<(), ReadStop>
     ensures read { (s : CheckerState) → IsAfter s [] checker.old
-        → IfSome (D.files desk.old) (λ files. Gives result (Is (said_at files path.now s))) }
+        → IfSome (D.files desk.new) (λ files. Gives result (Is (said_at files path.now s))) }
     ensures path { FailsAt path.now result }
     ensures only_reads { OnlyReads D.files D.faults D.put_faults desk.old desk.new result }
 {
@@ -71,7 +71,7 @@ fn check_log<R: Threads + Sync, D: Desk>(
     bits: &[Lit],
     values: Option<&[bool]>,
 ) -> Result<(), ReadStop>
-    ensures read { IfSome (D.files desk.old) (λ files. Gives result (Is (said_at files path.now
+    ensures read { IfSome (D.files desk.new) (λ files. Gives result (Is (said_at files path.now
         (begun clauses.now bits.now (option_map (λ v. v.now) values.entry))))) }
     ensures in_order { OnOk result (AllClauses (clauses_of clauses.now.entries)) }
     ensures path { FailsAt path.now result }
@@ -92,9 +92,9 @@ fn check_refutation<R: Threads + Sync, D: Desk>(
 ) -> Result<(), ReadStop>
     requires ruled { AreRules _problem.now rules.now }
     requires decodes { RulesDecode _problem.now }
-    ensures read { IfSome (D.files desk.old) (λ files. Gives result (Is (certified_at files path.now
+    ensures read { IfSome (D.files desk.new) (λ files. Gives result (Is (certified_at files path.now
         _problem.now None))) }
-    ensures shown { OnOk result (IfSome (D.files desk.old) (λ files. ShowsOf _problem.now None)) }
+    ensures shown { OnOk result (IfSome (D.files desk.new) (λ files. ShowsOf _problem.now None)) }
     ensures path { FailsAt path.now result }
     ensures only_reads { OnlyReads D.files D.faults D.put_faults desk.old desk.new result }
 {
@@ -115,9 +115,9 @@ fn check_costs<R: Threads + Sync, D: Desk>(
 ) -> Result<(), ReadStop>
     requires encoded { IsEncoded _problem.now encoded.now }
     requires built { encoded.now ≡ encoding_of _problem.now }
-    ensures read { IfSome (D.files desk.old) (λ files. Gives result (Is (certified_at files path.now
+    ensures read { IfSome (D.files desk.new) (λ files. Gives result (Is (certified_at files path.now
         _problem.now (Some numbers.now)))) }
-    ensures shown { OnOk result (IfSome (D.files desk.old)
+    ensures shown { OnOk result (IfSome (D.files desk.new)
         (λ files. ShowsOf _problem.now (Some numbers.now))) }
     ensures path { FailsAt path.now result }
     ensures only_reads { OnlyReads D.files D.faults D.put_faults desk.old desk.new result }
@@ -160,12 +160,12 @@ pub fn read_certificate<R: Threads + Sync, D: Desk>(
     numbers: Option<&[u64]>,
 ) -> Result<(), ReadStop>
     requires closure { closure.now ≡ closure_of problem.now }
-    requires few { length (closure_of problem.now) ≤ 1024 }
+    requires few { length (closure_of problem.now) ≤ most_names }
     requires values { has_right_values problem.now ≡ true }
     requires limits { is_within_limits problem.now ≡ true }
-    ensures read { IfSome (D.files desk.old) (λ files. Gives result (Is (certified_at files path.now
+    ensures read { IfSome (D.files desk.new) (λ files. Gives result (Is (certified_at files path.now
         problem.now (option_map (λ n. n.now) numbers.entry)))) }
-    ensures shown { OnOk result (IfSome (D.files desk.old)
+    ensures shown { OnOk result (IfSome (D.files desk.new)
         (λ files. ShowsOf problem.now
         (option_map (λ n. n.now) numbers.entry))) }
     ensures path { FailsAt path.now result }

@@ -1,13 +1,14 @@
 //! The check of the lock file and the certificate of each root by itself.
 
-ghost use Rattle.std.specs.Prelude.{◌<◌, ℕ, IfOk, IfSome, OnOk, length};
-ghost use Rattle.problem.specs.Problems.{apart};
+ghost use Rattle.std.specs.Prelude.{IfOk, IfSome, OnOk};
+ghost use Rattle.problem.specs.Problems.{each_alone};
 ghost use Rattle.run_input.specs.Inputs.{IsPosed};
 ghost use Rattle.run_input.specs.Reads.{OnlyReads};
 ghost use Rattle.run_input.specs.Stages.{InRoot};
 ghost use Rattle.run_input.specs.Stops.{Gives};
 ghost use Rattle.run_task.specs.Certificates.{log_verdict};
-ghost use Rattle.run_task.specs.Places.{FailsAtRoots, cert_at, lock_at};
+ghost use Rattle.run_task.specs.Looks.{FailsAtCheck, FailsAtRoots};
+ghost use Rattle.run_task.specs.Places.{cert_at, lock_at};
 ghost use Rattle.run_task.specs.Shown.{AreBestLocks, IsBestLock};
 ghost use Rattle.run_task.specs.Tasks.{CheckOf, ChecksOf, IsYes};
 
@@ -30,13 +31,14 @@ fn read_check_at<R: Threads + Sync, D: Desk>(
     one: &Input,
 ) -> Result<Task, ReadStop>
     requires { IsPosed one.now }
-    ensures read { IfSome (D.files desk.old)
+    ensures read { IfSome (D.files desk.new)
         (λ files. Gives result (InRoot root (CheckOf log_verdict files (lock_at dir.now root)
         (cert_at dir.now root) one.now.problem))) }
-    ensures shown { OnOk result (IfSome (D.files desk.old)
+    ensures shown { OnOk result (IfSome (D.files desk.new)
         (λ files. IsBestLock files (lock_at dir.now root) one.now.problem)) }
     ensures yes { IfOk result IsYes }
-    ensures path { (count : ℕ) → root < count → FailsAtRoots dir.now count result }
+    ensures path { FailsAtCheck (D.files desk.new) (lock_at dir.now root) (cert_at dir.now root)
+        one.now.problem result }
     ensures only_reads { OnlyReads D.files D.faults D.put_faults desk.old desk.new result }
 {
     let lock = lock_at(alloc, dir, root)?;
@@ -57,12 +59,13 @@ pub(crate) fn read_each_check<R: Threads + Sync, D: Desk>(
     input: &Input,
 ) -> Result<Task, ReadStop>
     requires { IsPosed input.now }
-    ensures read { IfSome (D.files desk.old)
-        (λ files. Gives result (ChecksOf log_verdict files dir.now 0 (apart input.now.problem))) }
-    ensures shown { OnOk result (IfSome (D.files desk.old)
-        (λ files. AreBestLocks files dir.now 0 (apart input.now.problem))) }
+    ensures read { IfSome (D.files desk.new)
+        (λ files. Gives result (ChecksOf log_verdict files dir.now 0
+        (each_alone input.now.problem))) }
+    ensures shown { OnOk result (IfSome (D.files desk.new)
+        (λ files. AreBestLocks files dir.now 0 (each_alone input.now.problem))) }
     ensures yes { IfOk result IsYes }
-    ensures path { FailsAtRoots dir.now (length input.now.problem.roots) result }
+    ensures path { FailsAtRoots (D.files desk.new) dir.now (each_alone input.now.problem) result }
     ensures only_reads { OnlyReads D.files D.faults D.put_faults desk.old desk.new result }
 {
     for place in 0..input.problem.roots().len() {

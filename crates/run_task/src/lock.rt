@@ -33,7 +33,7 @@ fn lock_in(alloc: Global, bytes: &[u8]) -> Result<Lock, ReadStop>
 /// `MissingInput` where there is no such file, `LockTooLarge` from 2^63 bytes on, `BadLock` with the first fault.
 /// `Fault` where the desk failed, with the path.
 fn read_lock_at<D: Desk>(alloc: Global, desk: &mut D, path: &str) -> Result<Lock, ReadStop>
-    ensures read { IfSome (D.files desk.old) (λ files. Gives result (LockAt files path.now)) }
+    ensures read { IfSome (D.files desk.new) (λ files. Gives result (LockAt files path.now)) }
     ensures path { FailsAt path.now result }
     ensures only_reads { OnlyReads D.files D.faults D.put_faults desk.old desk.new result }
 {
@@ -77,7 +77,7 @@ pub(crate) fn read_named_lock<D: Desk>(
     path: &str,
     problem: &Problem,
 ) -> Result<Lock, ReadStop>
-    ensures read { IfSome (D.files desk.old)
+    ensures read { IfSome (D.files desk.new)
         (λ files. Gives result (NamedAt files path.now problem.now)) }
     ensures path { FailsAt path.now result }
     ensures only_reads { OnlyReads D.files D.faults D.put_faults desk.old desk.new result }

@@ -2,12 +2,14 @@
 
 ghost use Rattle.std.specs.Prelude.{Some, IfOk, IfSome, OnOk};
 ghost use Rattle.std.specs.Option.{option_map};
+ghost use Rattle.run_input.specs.Bytes.{FailsAt};
 ghost use Rattle.run_input.specs.Inputs.{IsPosed};
 ghost use Rattle.run_input.specs.Reads.{OnlyReads};
 ghost use Rattle.run_input.specs.Stops.{Gives};
 ghost use Rattle.run_task.specs.Certificates.{ShowsOf, log_verdict};
+ghost use Rattle.run_task.specs.Looks.{FailsAtCheck};
 ghost use Rattle.run_task.specs.Shown.{ComparesLock, IsBestLock};
-ghost use Rattle.run_task.specs.Tasks.{AcceptanceOf, CheckOf, ComparisonOf, PlanOf, ReportOf, IsComparisonTask, IsPlanTask, IsReportTask, IsReady, IsReadyInput, IsYes, FailsAtEither};
+ghost use Rattle.run_task.specs.Tasks.{AcceptanceOf, CheckOf, ComparisonOf, PlanOf, ReportOf, IsComparisonTask, IsPlanTask, IsReportTask, IsReady, IsReadyInput, IsYes};
 
 use crate::task::Task;
 use crate::{read_certificate, read_valid_graph, read_verdict};
@@ -24,10 +26,10 @@ pub(crate) fn read_report<D: Desk>(
     lock: &str,
     input: &Input,
 ) -> Result<Task, ReadStop>
-    ensures read { IfSome (D.files desk.old)
+    ensures read { IfSome (D.files desk.new)
         (λ files. Gives result (ReportOf files lock.now input.now.problem)) }
     ensures report { IfOk result IsReportTask }
-    ensures path { FailsAtEither lock.now lock.now result }
+    ensures path { FailsAt lock.now result }
     ensures only_reads { OnlyReads D.files D.faults D.put_faults desk.old desk.new result }
 {
     match read_verdict(alloc, desk, lock, &input.problem) {
@@ -44,13 +46,13 @@ pub(crate) fn read_comparison<D: Desk>(
     input: Input,
 ) -> Result<Task, ReadStop>
     requires { IsReadyInput input }
-    ensures read { IfSome (D.files desk.old)
+    ensures read { IfSome (D.files desk.new)
         (λ files. Gives result (ComparisonOf files lock.now input)) }
-    ensures seen { IfOk result (λ task. IfSome (D.files desk.old)
+    ensures seen { IfOk result (λ task. IfSome (D.files desk.new)
         (λ files. ComparesLock files lock.now input.problem task)) }
     ensures comparison { IfOk result IsComparisonTask }
     ensures ready { IfOk result (λ task. IsReady task) }
-    ensures path { FailsAtEither lock.now lock.now result }
+    ensures path { FailsAt lock.now result }
     ensures only_reads { OnlyReads D.files D.faults D.put_faults desk.old desk.new result }
 {
     match read_verdict(alloc, desk, lock, &input.problem) {
@@ -66,11 +68,11 @@ pub(crate) fn read_plan<D: Desk>(
     lock: &str,
     input: &Input,
 ) -> Result<Task, ReadStop>
-    ensures read { IfSome (D.files desk.old)
+    ensures read { IfSome (D.files desk.new)
         (λ files. Gives result (PlanOf files lock.now input.now.problem)) }
     ensures plan { IfOk result IsPlanTask }
     ensures ready { IfOk result (λ task. IsReady task) }
-    ensures path { FailsAtEither lock.now lock.now result }
+    ensures path { FailsAt lock.now result }
     ensures only_reads { OnlyReads D.files D.faults D.put_faults desk.old desk.new result }
 {
     match read_valid_graph(alloc, desk, lock, &input.problem) {
@@ -90,13 +92,13 @@ pub(crate) fn read_acceptance<R: Threads + Sync, D: Desk>(
     numbers: Option<&[u64]>,
 ) -> Result<Task, ReadStop>
     requires { IsPosed input.now }
-    ensures read { IfSome (D.files desk.old)
+    ensures read { IfSome (D.files desk.new)
         (λ files. Gives result (AcceptanceOf log_verdict files cert.now input.now.problem
         (option_map (λ n. n.now) numbers.entry))) }
-    ensures shown { OnOk result (IfSome (D.files desk.old)
+    ensures shown { OnOk result (IfSome (D.files desk.new)
         (λ files. ShowsOf input.now.problem (option_map (λ n. n.now) numbers.entry))) }
     ensures yes { IfOk result IsYes }
-    ensures path { FailsAtEither cert.now cert.now result }
+    ensures path { FailsAt cert.now result }
     ensures only_reads { OnlyReads D.files D.faults D.put_faults desk.old desk.new result }
 {
     match read_certificate(
@@ -123,12 +125,12 @@ pub(crate) fn read_check<R: Threads + Sync, D: Desk>(
     input: &Input,
 ) -> Result<Task, ReadStop>
     requires { IsPosed input.now }
-    ensures read { IfSome (D.files desk.old)
+    ensures read { IfSome (D.files desk.new)
         (λ files. Gives result (CheckOf log_verdict files lock.now cert.now input.now.problem)) }
-    ensures shown { OnOk result (IfSome (D.files desk.old)
+    ensures shown { OnOk result (IfSome (D.files desk.new)
         (λ files. IsBestLock files lock.now input.now.problem)) }
     ensures yes { IfOk result IsYes }
-    ensures path { FailsAtEither lock.now cert.now result }
+    ensures path { FailsAtCheck (D.files desk.new) lock.now cert.now input.now.problem result }
     ensures only_reads { OnlyReads D.files D.faults D.put_faults desk.old desk.new result }
 {
     let numbers = read_verdict(alloc, desk, lock, &input.problem)?;

@@ -37,7 +37,7 @@ fn read_piece<D: Desk>(
     out: &mut [u8],
 ) -> Result<usize, ReadStop>
     ensures bound { IfOk result (λ n. n ≤ length out.new) }
-    ensures read { IfSome (D.files desk.old)
+    ensures read { IfSome (D.files desk.new)
         (λ files. GivesPiece (get files path.now) from out.new path.now result) }
     ensures path { FailsAt path.now result }
     ensures only_reads { OnlyReads D.files D.faults D.put_faults desk.old desk.new result }
@@ -79,7 +79,7 @@ pub(crate) fn take_next<R: Threads + Sync, D: Desk>(
     requires within { from ≤ most }
     requires room { 0 < length piece.old }
     ensures moves { IfOk result (λ next. Moves from next) }
-    ensures taken { IfSome (D.files desk.old) (λ files. (s : CheckerState)
+    ensures taken { IfSome (D.files desk.new) (λ files. (s : CheckerState)
         → TakesNext s (get files path.now) from path.now checker.old checker.new result) }
     ensures path { FailsAt path.now result }
     ensures only_reads { OnlyReads D.files D.faults D.put_faults desk.old desk.new result }
@@ -109,7 +109,7 @@ pub(crate) fn take_all<R: Threads + Sync, D: Desk>(
     piece: &mut [u8],
 ) -> Result<bool, ReadStop>
     requires { 0 < length piece.old }
-    ensures taken { IfSome (D.files desk.old) (λ files. (s : CheckerState)
+    ensures taken { IfSome (D.files desk.new) (λ files. (s : CheckerState)
         → TakesAll s (get files path.now) path.now checker.old checker.new result) }
     ensures path { FailsAt path.now result }
     ensures only_reads { OnlyReads D.files D.faults D.put_faults desk.old desk.new result }

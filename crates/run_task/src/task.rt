@@ -8,8 +8,9 @@ ghost use Rattle.run_input.specs.Reads.{OnlyReads};
 ghost use Rattle.run_input.specs.Stops.{Gives, EndsInReadFault};
 ghost use Rattle.run_task.specs.Certificates.{log_verdict};
 ghost use Rattle.trial_input.specs.Inputs.{input_files};
+ghost use Rattle.run_task.specs.Looks.{FailsAtLook, FailsAtTask};
 ghost use Rattle.run_task.specs.Shown.{IsSeen, IsSeenOver, IsShownOver, SeenBy};
-ghost use Rattle.run_task.specs.Tasks.{TaskBy, Over, OverUnless, Named, IsOf, IsReady, HasSpecs, HasSpecsBy, FailsAtTask, HasRoots, is_search, made_for};
+ghost use Rattle.run_task.specs.Tasks.{TaskBy, Over, OverUnless, Named, IsOf, IsReady, HasSpecs, HasSpecsBy, HasRoots, is_search, made_for};
 ghost use Rattle.run_input.specs.Roots.{RootsOf};
 
 use crate::each_check::read_each_check;
@@ -60,14 +61,15 @@ fn task_by<R: Threads + Sync, D: Desk>(
     requires posed { IsPosed input }
     requires roots { RootsOf command.now.spec (Ok input.problem.roots) }
     requires no_search { is_search command.now.work ≡ false }
-    ensures read { IfSome (D.files desk.old)
+    ensures read { IfSome (D.files desk.new)
         (λ files. Gives result (TaskBy log_verdict command.now.work files command.now input)) }
-    ensures seen { IfOk result (λ task. IfSome (D.files desk.old)
+    ensures seen { IfOk result (λ task. IfSome (D.files desk.new)
         (λ files. SeenBy command.now.work task files command.now input.problem)) }
     ensures work { IfOk result (λ task. IsOf command.now.work task) }
     ensures ready { IfOk result (λ task. IsReady task) }
     ensures roots { IfOk result (λ task. HasRoots command.now.spec task) }
-    ensures path { FailsAtTask (D.files desk.old) command.now result }
+    ensures path { FailsAtLook command.now.work (D.files desk.new) command.now
+        input.problem result }
     ensures only_reads { OnlyReads D.files D.faults D.put_faults desk.old desk.new result }
 {
     match command.work {
@@ -115,14 +117,15 @@ fn read_posed<R: Threads + Sync, D: Desk>(
     command: &Command<'_>,
 ) -> Result<Task, ReadStop>
     requires work { is_search command.now.work ≡ false }
-    ensures read { IfSome (D.files desk.old) (λ files. Gives result (OverUnless log_verdict false files command.now)) }
-    ensures seen { IfOk result (λ task. IfSome (D.files desk.old)
+    ensures read { IfSome (D.files desk.new)
+        (λ files. Gives result (OverUnless log_verdict false files command.now)) }
+    ensures seen { IfOk result (λ task. IfSome (D.files desk.new)
         (λ files. IsShownOver (SeenBy command.now.work task) files command.now)) }
     ensures work { IfOk result (λ task. IsOf command.now.work task) }
     ensures ready { IfOk result (λ task. IsReady task) }
     ensures roots { IfOk result (λ task. HasRoots command.now.spec task) }
     ensures specs { IfOk result (λ task. HasSpecsBy false command.now.spec) }
-    ensures path { FailsAtTask (D.files desk.old) command.now result }
+    ensures path { FailsAtTask (D.files desk.new) command.now result }
     ensures only_reads { OnlyReads D.files D.faults D.put_faults desk.old desk.new result }
 {
     reading_laws();
@@ -139,12 +142,13 @@ fn read_search<R: Threads + Sync, D: Desk>(
     desk: &mut D,
     command: &Command<'_>,
 ) -> Result<Task, ReadStop>
-    ensures read { IfSome (D.files desk.old) (λ files. Gives result (OverUnless log_verdict true files command.now)) }
+    ensures read { IfSome (D.files desk.new)
+        (λ files. Gives result (OverUnless log_verdict true files command.now)) }
     ensures work { IfOk result (λ task. IsOf Work.Find task) }
     ensures ready { IfOk result (λ task. IsReady task) }
     ensures roots { IfOk result (λ task. HasRoots command.now.spec task) }
     ensures specs { IfOk result (λ task. HasSpecsBy true command.now.spec) }
-    ensures path { FailsAtTask (D.files desk.old) command.now result }
+    ensures path { FailsAtTask (D.files desk.new) command.now result }
     ensures only_reads { OnlyReads D.files D.faults D.put_faults desk.old desk.new result }
 {
     match read_query(rt, alloc, desk, command) {
@@ -180,14 +184,15 @@ fn read_over<R: Threads + Sync, D: Desk>(
     desk: &mut D,
     command: &Command<'_>,
 ) -> Result<Task, ReadStop>
-    ensures read { IfSome (D.files desk.old) (λ files. Gives result (Over log_verdict files command.now)) }
-    ensures seen { IfOk result (λ task. IfSome (D.files desk.old)
+    ensures read { IfSome (D.files desk.new)
+        (λ files. Gives result (Over log_verdict files command.now)) }
+    ensures seen { IfOk result (λ task. IfSome (D.files desk.new)
         (λ files. IsSeenOver files command.now task)) }
     ensures work { IfOk result (λ task. IsOf command.now.work task) }
     ensures ready { IfOk result (λ task. IsReady task) }
     ensures roots { IfOk result (λ task. HasRoots command.now.spec task) }
     ensures specs { IfOk result (λ task. HasSpecs command.now) }
-    ensures path { FailsAtTask (D.files desk.old) command.now result }
+    ensures path { FailsAtTask (D.files desk.new) command.now result }
     ensures only_reads { OnlyReads D.files D.faults D.put_faults desk.old desk.new result }
 {
     if is_search(command.work) {
@@ -251,14 +256,15 @@ pub fn read_task<R: Threads + Sync, D: Desk>(
     desk: &mut D,
     command: &Command<'_>,
 ) -> Result<Task, ReadStop>
-    ensures read { IfSome (D.files desk.old) (λ files. Gives result (Named log_verdict files command.now)) }
-    ensures seen { IfOk result (λ task. IfSome (D.files desk.old)
+    ensures read { IfSome (D.files desk.new)
+        (λ files. Gives result (Named log_verdict files command.now)) }
+    ensures seen { IfOk result (λ task. IfSome (D.files desk.new)
         (λ files. IsSeen files command.now task)) }
     ensures work { IfOk result (λ task. IsOf command.now.work task) }
     ensures ready { IfOk result (λ task. IsReady task) }
     ensures roots { IfOk result (λ task. HasRoots command.now.spec task) }
     ensures specs { IfOk result (λ task. HasSpecs command.now) }
-    ensures path { FailsAtTask (D.files desk.old) command.now result }
+    ensures path { FailsAtTask (D.files desk.new) command.now result }
     ensures only_reads { OnlyReads D.files D.faults D.put_faults desk.old desk.new result }
 {
     match made_for(command.work) {

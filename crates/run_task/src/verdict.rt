@@ -84,9 +84,9 @@ pub fn read_verdict<D: Desk>(
     path: &str,
     problem: &Problem,
 ) -> Result<[u64; 31], ReadStop>
-    ensures read { IfSome (D.files desk.old)
+    ensures read { IfSome (D.files desk.new)
         (λ files. Gives result (Judges files path.now problem.now)) }
-    ensures lock { IfOk result (λ numbers. IfSome (D.files desk.old)
+    ensures lock { IfOk result (λ numbers. IfSome (D.files desk.new)
         (λ files. IsValidLock files path.now problem.now numbers)) }
     ensures costs { IfOk result (λ numbers. HasCosts problem.now numbers) }
     ensures path { FailsAt path.now result }
@@ -109,7 +109,7 @@ pub fn read_valid_graph<D: Desk>(
     path: &str,
     problem: &Problem,
 ) -> Result<Graph, ReadStop>
-    ensures read { IfSome (D.files desk.old)
+    ensures read { IfSome (D.files desk.new)
         (λ files. Gives result (GraphAt files path.now problem.now)) }
     ensures acyclic { IfOk result (λ graph. IsAcyclic (JoinedIn graph)) }
     ensures path { FailsAt path.now result }

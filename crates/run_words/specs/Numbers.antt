@@ -15,5 +15,5 @@ unfoldable pub if_decimal : List ℕ → ℕ → Option ℕ
 if_decimal text n = if bytes_eq (decimal n) text then Some n else None
 
 -- the number of which this is the text
-unfoldable pub number_in : List ℕ → Option ℕ
-number_in text = option_and_then (if_decimal text) (digits_behind 0 text)
+unfoldable pub number_of_word : List ℕ → Option ℕ
+number_of_word text = option_and_then (if_decimal text) (digits_behind 0 text)

@@ -5,7 +5,7 @@ use Rattle.std.specs.Str.{bytes_eq}
 use Rattle.std.specs.String.{string_bytes}
 use Rattle.std.specs.declared.alloc.Global.{Global}
 use Rattle.spec_grammar.specs.Signs.{is_white}
-use Rattle.run_words.specs.Numbers.{number_in}
+use Rattle.run_words.specs.Numbers.{number_of_word}
 use Rattle.run_words.specs.declared.command.Work.{Work}
 use Rattle.run_words.specs.declared.command.Work.TheVariants as works
 use Rattle.run_words.specs.declared.verbs.FileWord.{FileWord}
@@ -160,7 +160,8 @@ trial_over packages seed =
     else None
 
 unfoldable pub trial_of : List (List ℕ) → Option Command
-trial_of (packages ∷ seed ∷ []) = option_and_then (λ n. option_and_then (λ s. trial_over n s) (number_in seed)) (number_in packages)
+trial_of (packages ∷ seed ∷ []) = option_and_then (λ n. option_and_then (λ s. trial_over n s) (number_of_word seed))
+    (number_of_word packages)
 trial_of others = None
 
 -- the command that the words are

@@ -62,7 +62,15 @@ impl<'a> Model for Command<'a> {
 
     ghost Value = { Command };
 
-    ghost view = { λ c. record { work = c.work; repo = c.repo.now; settings = c.settings.now; database = c.database.now; lock = c.lock.now; cert = c.cert.now; spec = string_bytes c.spec } };
+    ghost view = { λ c. record {
+      work = c.work;
+      repo = c.repo.now;
+      settings = c.settings.now;
+      database = c.database.now;
+      lock = c.lock.now;
+      cert = c.cert.now;
+      spec = string_bytes c.spec;
+    } };
 }
 
 /// Words joined by one space.

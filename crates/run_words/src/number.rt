@@ -1,7 +1,7 @@
 //! Numbers among the words.
 
 ghost use Rattle.std.specs.Prelude.{◌≡◌, IfOk};
-ghost use Rattle.run_words.specs.Numbers.{with_decimal_digit, digits_behind, if_decimal, number_in};
+ghost use Rattle.run_words.specs.Numbers.{with_decimal_digit, digits_behind, if_decimal, number_of_word};
 
 use std::alloc::{AllocError, Global};
 
@@ -39,9 +39,9 @@ fn if_written(alloc: Global, text: &str, number: u64) -> Result<Option<u64>, All
 }
 
 /// The number that a word is: decimal, below 2^64, without leading zeros.
-#[tactic(auto, unfolding(crate::specs::Numbers::number_in))]
-pub(crate) fn number_in(alloc: Global, text: &str) -> Result<Option<u64>, AllocError>
-    ensures { IfOk result (λ n. n ≡ number_in text.now) }
+#[tactic(auto, unfolding(crate::specs::Numbers::number_of_word))]
+pub(crate) fn number_of_word(alloc: Global, text: &str) -> Result<Option<u64>, AllocError>
+    ensures { IfOk result (λ n. n ≡ number_of_word text.now) }
 {
     match digits_behind(0, text.as_bytes()) {
         Some(number) => if_written(alloc, text, number),

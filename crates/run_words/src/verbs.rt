@@ -5,7 +5,7 @@ ghost use Rattle.std.specs.Option.{option_map};
 ghost use Rattle.run_words.specs.Words.{words_of, row, verb_of, path_in, words_behind, with_spec, command_by, trial_over, trial_of, command_of};
 
 use crate::command::{Command, FilePaths, Work, command_over, is_same};
-use crate::number::number_in;
+use crate::number::number_of_word;
 use std::alloc::{AllocError, Global};
 
 /// Whether a file stands among the words of a verb.
@@ -178,10 +178,10 @@ fn read_trial<'a>(alloc: Global, words: &'a [String]) -> Result<Option<Command<'
     let [packages, seed] = words else {
         return Ok(None);
     };
-    let Some(packages) = number_in(alloc, packages.as_str())? else {
+    let Some(packages) = number_of_word(alloc, packages.as_str())? else {
         return Ok(None);
     };
-    let Some(seed) = number_in(alloc, seed.as_str())? else {
+    let Some(seed) = number_of_word(alloc, seed.as_str())? else {
         return Ok(None);
     };
     trial_over(alloc, packages, seed)

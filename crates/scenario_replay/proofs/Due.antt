@@ -3,7 +3,8 @@ use Rattle.std.proofs.Common.{◌≡◌, refl, sym, ap, ◌∙◌, ℕ, ◌+◌,
 use Rattle.std.proofs.Common.{append_assoc, append-nil, arith}
 use Rattle.std.specs.FinMap.{get}
 use Rattle.std.proofs.lemmas.List.Elements.{All-cons, All-nil}
-use Rattle.outside_desk.specs.Files.{Files, and_said}
+use Rattle.outside_desk.specs.Files.{Files, StillTells, and_said}
+use Rattle.outside_desk.proofs.Tellings.{held_still}
 use Rattle.scenario_reader.specs.Scenarios.{meaning_of}
 use Rattle.scenario_reader.specs.declared.scenario.Scenario.{Scenario}
 use Rattle.scenario_replay.specs.Told.{IsDue, IsWrong, SaysOne, ReplaysAll, Replays}
@@ -51,13 +52,15 @@ each_none None = tt
 pub none : (files : Option Files) (said : Option (List ℕ)) → ReplaysAll 0 files said said none_yet
 none files said = record { told = []; each = each_none files; said = said_nothing said; tallied = refl; enough = omega arith }
 
--- one file more
-pub one_more_said : (n : ℕ) (files : Option Files) (path : List ℕ) (before mid after : Option (List ℕ)) (counts new_counts : Counts)
-    → ReplaysAll n files before mid counts → SaysOne files path counts new_counts mid after
+-- one file more, where the desk tells its files still
+pub one_more_said : (n : ℕ) (so_far files : Option Files) (path : List ℕ) (before mid after : Option (List ℕ))
+    (counts new_counts : Counts) → StillTells so_far files
+    → ReplaysAll n so_far before mid counts → SaysOne files path counts new_counts mid after
     → ReplaysAll (n + 1) files before after new_counts
-one_more_said n files path before mid after counts new_counts all one = record {
+one_more_said n so_far files path before mid after counts new_counts still all one = record {
   told = (path, one.comparison) ∷ all.told;
-  each = each_more files path one.comparison all.told all.each one.due;
+  each = each_more files path one.comparison all.told
+      (held_still (λ m. All {X = List ℕ × Comparison} (λ item. IsDue (get m item.0) item.1) all.told) so_far files still all.each) one.due;
   said = one.said ∙ ap (λ said. and_said said (lines_of path one.comparison)) all.said
       ∙ said_more before (all_lines all.told) (lines_of path one.comparison);
   tallied = one.count ∙ ap (counted one.comparison) all.tallied;

@@ -1,6 +1,7 @@
 //! The files that words name: a folder's are all below it.
 
 ghost use Rattle.std.specs.Prelude.{◌≡◌, ◌<◌, OnOk, length};
+ghost use Rattle.outside_desk.specs.Files.{StillTells};
 
 use outside_desk::{Desk, DeskFault};
 use std::alloc::{AllocError, Global};
@@ -32,7 +33,7 @@ pub(crate) fn find<D: Desk>(
     found: &mut Vec<Found>,
 ) -> Result<(), AllocError>
     ensures more { OnOk result (length found.old.items < length found.new.items) }
-    ensures same { D.files desk.new ≡ D.files desk.old }
+    ensures same { StillTells (D.files desk.old) (D.files desk.new) }
     ensures put_faults { D.put_faults desk.new ≡ D.put_faults desk.old }
 {
     let kept = String::from_str(alloc, path)?;

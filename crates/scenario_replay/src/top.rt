@@ -2,7 +2,7 @@
 
 ghost use Rattle.std.specs.Prelude.{◌≡◌, ◌≢◌, ◌≤◌, ◌<◌, Some, IfOk, OnOk, IfSome, length};
 ghost use Rattle.std.specs.FinMap.{get};
-ghost use Rattle.outside_desk.specs.Files.{and_said};
+ghost use Rattle.outside_desk.specs.Files.{StillTells, and_said};
 ghost use Rattle.scenario_replay.specs.declared.comparison.Replayed.TheVariants as answers;
 ghost use Rattle.scenario_replay.specs.Told.{IsDue, IsWrong, Replays, ReplaysAll, SaysOne, path_of};
 
@@ -74,8 +74,8 @@ fn replay_file<R: Threads + Sync, D: Desk>(
     desk: &mut D,
     path: &str,
 ) -> Result<Comparison, AllocError>
-    ensures due { IfSome (D.files desk.old) (λ m. IfOk result (IsDue (get m path.now))) }
-    ensures same { D.files desk.new ≡ D.files desk.old }
+    ensures due { IfSome (D.files desk.new) (λ m. IfOk result (IsDue (get m path.now))) }
+    ensures same { StillTells (D.files desk.old) (D.files desk.new) }
     ensures put_faults { D.put_faults desk.new ≡ D.put_faults desk.old }
 {
     match read_whole(alloc, desk, path, LIMIT) {
@@ -91,9 +91,9 @@ fn replay_found<R: Threads + Sync, D: Desk>(
     desk: &mut D,
     found: &Found,
 ) -> Result<Comparison, AllocError>
-    ensures due { IfSome (D.files desk.old)
+    ensures due { IfSome (D.files desk.new)
         (λ m. IfOk result (IsDue (get m (path_of found.now)))) }
-    ensures same { D.files desk.new ≡ D.files desk.old }
+    ensures same { StillTells (D.files desk.old) (D.files desk.new) }
     ensures put_faults { D.put_faults desk.new ≡ D.put_faults desk.old }
 {
     match found {
@@ -118,7 +118,7 @@ fn find_all<D: Desk>(
     desk: &mut D,
 ) -> Result<Vec<Found>, AllocError>
     ensures enough { IfOk result (λ found. length words.now ≤ length found.items) }
-    ensures same { D.files desk.new ≡ D.files desk.old }
+    ensures same { StillTells (D.files desk.old) (D.files desk.new) }
     ensures put_faults { D.put_faults desk.new ≡ D.put_faults desk.old }
 {
     let mut found = Vec::new(alloc);
@@ -137,9 +137,9 @@ fn replay_one<R: Threads + Sync, D: Desk, O: Sink>(
     desk: &mut D,
     out: &mut O,
 ) -> Result<(), SinkFault>
-    ensures says { OnOk result (SaysOne (D.files desk.old) (path_of found.now)
+    ensures says { OnOk result (SaysOne (D.files desk.new) (path_of found.now)
         counts.old counts.new (O.said out.old) (O.said out.new)) }
-    ensures same { D.files desk.new ≡ D.files desk.old }
+    ensures same { StillTells (D.files desk.old) (D.files desk.new) }
     ensures put_faults { D.put_faults desk.new ≡ D.put_faults desk.old }
 {
     let comparison = replay_found(rt, alloc, desk, found)?;
@@ -157,9 +157,9 @@ fn replay_each<R: Threads + Sync, D: Desk, O: Sink>(
     desk: &mut D,
     out: &mut O,
 ) -> Result<Counts, SinkFault>
-    ensures says { IfOk result (ReplaysAll (length all.now) (D.files desk.old)
+    ensures says { IfOk result (ReplaysAll (length all.now) (D.files desk.new)
         (O.said out.old) (O.said out.new)) }
-    ensures same { D.files desk.new ≡ D.files desk.old }
+    ensures same { StillTells (D.files desk.old) (D.files desk.new) }
     ensures put_faults { D.put_faults desk.new ≡ D.put_faults desk.old }
 {
     let mut counts = Counts::none();
@@ -178,9 +178,9 @@ fn replay_all<R: Threads + Sync, D: Desk, O: Sink>(
     desk: &mut D,
     out: &mut O,
 ) -> Result<Replayed, SinkFault>
-    ensures says { IfOk result (Replays (length all.now) (D.files desk.old)
+    ensures says { IfOk result (Replays (length all.now) (D.files desk.new)
         (O.said out.old) (O.said out.new)) }
-    ensures same { D.files desk.new ≡ D.files desk.old }
+    ensures same { StillTells (D.files desk.old) (D.files desk.new) }
     ensures put_faults { D.put_faults desk.new ≡ D.put_faults desk.old }
 {
     let counts = replay_each(rt, alloc, all, desk, out)?;
@@ -199,9 +199,9 @@ pub fn replay<R: Threads + Sync, D: Desk, O: Sink>(
     desk: &mut D,
     out: &mut O,
 ) -> Replayed
-    ensures says { result ≢ answers.Broken → Replays (length words.now) (D.files desk.old)
+    ensures says { result ≢ answers.Broken → Replays (length words.now) (D.files desk.new)
         (O.said out.old) (O.said out.new) result }
-    ensures same { D.files desk.new ≡ D.files desk.old }
+    ensures same { StillTells (D.files desk.old) (D.files desk.new) }
     ensures put_faults { D.put_faults desk.new ≡ D.put_faults desk.old }
 {
     let Ok(all) = find_all(alloc, words, desk) else {

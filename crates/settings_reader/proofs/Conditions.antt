@@ -29,7 +29,8 @@ text_more texts i x read new y was lt is below more =
 
 -- a text that is refused refuses the list
 pub text_stop : (texts : List (List ℕ)) (i : ℕ) (x : List ℕ) (read : List Spec) (s : Stop) → So texts i read → i < length texts
-    → x ≡ get_or texts i x → Tells {T = Spec} (Err s) (Below (decimal i) (IsCondition x)) → Tells {T = List Spec} (Err s) (AreConditions texts)
+    → x ≡ get_or texts i x → Tells {T = Spec} (Err s) (Below (decimal i) (IsCondition x))
+    → Tells {T = List Spec} (Err s) (AreConditions texts)
 text_stop texts i x read s was lt is below =
     each_stop (λ key text. IsCondition text) (texts_at 0 texts) (decimal i) x (rest_at (i + 1) texts) read s
     (at_text texts i x read was lt is) below

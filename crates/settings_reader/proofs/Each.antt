@@ -26,7 +26,10 @@ after_more xs x (Err m) = refl
 
 -- at the beginning nothing was read
 pub each_none : {T V : Type 0} (tells : List ℕ → V → Told T) (whole : List (List ℕ × V)) → Continues tells whole whole []
-each_none tells whole = record { to = λ out h. let P : ToldResult (List _) → Type 0 = AreEach tells whole in subst P (sym (after_none out)) h }
+each_none tells whole = record {
+  to = λ out h. let P : ToldResult (List _) → Type 0 = AreEach tells whole in
+      subst P (sym (after_none out)) h;
+}
 
 -- one value more
 each_cons : {T V : Type 0} (tells : List ℕ → V → Told T) (key : List ℕ) (d : V) (rest : List (List ℕ × V)) (x : T)

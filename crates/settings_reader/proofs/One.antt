@@ -16,7 +16,7 @@ use Rattle.settings_reader.specs.Parsed.{AreEach, IsOptional}
 use Rattle.settings_reader.specs.Versions.{IsSet, IsSetIn}
 use Rattle.settings_reader.specs.Externals.{IsReadAs, IsDescribed, described_of}
 use Rattle.settings_reader.specs.Required as required
-use Rattle.settings_reader.specs.Required.{IsCondition, outcome_of}
+use Rattle.settings_reader.specs.Required.{IsCondition, condition_told}
 
 abbrev pub IsOne : {T : Type 0} → Told T → Type 0
 IsOne told = (a b : ToldResult _) → told a → told b → a ≡ b
@@ -101,7 +101,7 @@ described_one laws name platform text a b h k =
 only_same : (a b : Spec) → (let l : List Spec = a ∷ [] in let r : List Spec = b ∷ [] in l ≡ r) → a ≡ b
 only_same a b e = cc
 
-condition_read_one : ReadsSpecsOnce → (text : List ℕ) (a b : Result Spec SpecFault) → required.IsReadAs text a → required.IsReadAs text b
+condition_read_one : ReadsSpecsOnce → (text : List ℕ) (a b : Result Spec SpecFault) → required.IsReadAsCondition text a → required.IsReadAsCondition text b
     → a ≡ b
 condition_read_one laws text (Ok a) (Ok b) h k = ap Ok (only_same a b (laws.once Condition text (a ∷ []) (b ∷ []) h k))
 condition_read_one laws text (Ok a) (Err f) h k = absurd (k.1 (laws.right Condition text (a ∷ []) f h k.0))
@@ -110,4 +110,4 @@ condition_read_one laws text (Err f) (Err e) h k = ap Err (laws.one_fault Condit
 
 -- a text of a condition has one outcome
 pub condition_one : ReadsSpecsOnce → (text : List ℕ) → IsOne (IsCondition text)
-condition_one laws text a b h k = h.is ∙ ap outcome_of (condition_read_one laws text h.read k.read h.right k.right) ∙ sym k.is
+condition_one laws text a b h k = h.is ∙ ap condition_told (condition_read_one laws text h.read k.read h.right k.right) ∙ sym k.is

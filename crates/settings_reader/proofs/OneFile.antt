@@ -16,7 +16,7 @@ use Rattle.settings_reader.specs.Externals as external_spec
 use Rattle.settings_reader.specs.Externals.{IsDescribed, IsExternal}
 use Rattle.settings_reader.specs.Lists.{text_list}
 use Rattle.settings_reader.specs.Required as required_spec
-use Rattle.settings_reader.specs.Required.{AreChoices, AreConditions, AreRequired, AreRequiredAt, IsChoice, IsCondition, IsItem, texts_at, IsItemBy, IsObject, IsOnly, IsWhen, IsWhenBy, AreRequiredBy}
+use Rattle.settings_reader.specs.Required.{AreChoices, AreConditions, AreRequired, AreRequiredAt, IsChoice, IsCondition, IsRequirement, texts_at, IsRequirementBy, IsObject, IsOnly, IsWhen, IsWhenBy, AreRequiredBy}
 use Rattle.settings_reader.specs.Packages as package_spec
 use Rattle.settings_reader.specs.Packages.{ArePackages, ArePackagesAt, IsPackage}
 use Rattle.settings_reader.specs.Order.{head_of, tail_of}
@@ -63,13 +63,13 @@ object_one laws d =
 only_one : ReadsSpecsOnce → (text : List ℕ) → IsOne (IsOnly text)
 only_one laws text = then_one (IsCondition text) _ (condition_one laws text) (λ spec. done_one _)
 
-item_by_one : ReadsSpecsOnce → (text : Option (List ℕ)) (d : Data) → IsOne (IsItemBy text d)
+item_by_one : ReadsSpecsOnce → (text : Option (List ℕ)) (d : Data) → IsOne (IsRequirementBy text d)
 item_by_one laws (Some text) d = only_one laws text
 item_by_one laws None d = object_one laws d
 
 required_by_one : ReadsSpecsOnce → (text : Option (List ℕ)) (d : Data) → IsOne (AreRequiredBy text d)
 required_by_one laws (Some text) d = then_one (IsOnly text) _ (only_one laws text) (λ entry. done_one _)
-required_by_one laws None d = list_one IsItem (λ v. item_by_one laws (as_str v) v) d
+required_by_one laws None d = list_one IsRequirement (λ v. item_by_one laws (as_str v) v) d
 
 required_at_one : ReadsSpecsOnce → (ms : Members) → IsOne (AreRequiredAt ms)
 required_at_one laws ms = below_one (codes "require") (IsOptional AreRequired (get_member (codes "require") ms))

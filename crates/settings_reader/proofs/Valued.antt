@@ -46,7 +46,8 @@ each_ok p tells each (v ∷ vs) xs h =
     let here = each v.0 v.1 first.0 (below_ok v.0 (tells v.0 v.1) first.0 first.1) in
     subst (λ l. list_all p l ≡ true) (sym (ok_same xs (first.0 ∷ rest.0) rest.2)) (rw (here, each_ok p tells each vs rest.0 rest.1) refl)
 
-optional_ok : {T : Type 0} (p : T → Bool) (tells : Data → Told (List T)) → ((d : Data) → Passes (list_all p) (tells d)) → (found : Option Data)
+optional_ok : {T : Type 0} (p : T → Bool) (tells : Data → Told (List T)) → ((d : Data) → Passes (list_all p) (tells d))
+    → (found : Option Data)
     → Passes (list_all p) (IsOptional tells found)
 optional_ok p tells each None xs h = subst (λ l. list_all p l ≡ true) (sym (ok_same xs [] h)) refl
 optional_ok p tells each (Some d) xs h = each d xs h
@@ -123,7 +124,8 @@ read_filled laws name platform text d (Err fault) right is = absurd (ok_no d _ i
 
 -- ---- externals, packages, settings
 
-external_filled : SpecsAreValued → (name platform : List ℕ) (d : Data) → Passes (λ external. list_all (λ v. is_filled v.1) external.variants)
+external_filled : SpecsAreValued → (name platform : List ℕ) (d : Data)
+    → Passes (λ external. list_all (λ v. is_filled v.1) external.variants)
     (IsExternal name platform d)
 external_filled laws name platform d external h =
     let ms = then_ok _ _ external h in

@@ -21,19 +21,19 @@ use Rattle.site_settings.specs.declared.settings.RequireEntry.{RequireEntry}
 -- ---- texts of conditions
 
 -- the condition that the text spells, or its fault
-abbrev pub IsReadAs : List ℕ → Result Spec SpecFault → Type 0
-IsReadAs text (Ok spec) = Spells mode.Condition text (spec ∷ [])
-IsReadAs text (Err fault) = IsFault mode.Condition text fault × (fault ≢ OutOfMemory)
+abbrev pub IsReadAsCondition : List ℕ → Result Spec SpecFault → Type 0
+IsReadAsCondition text (Ok spec) = Spells mode.Condition text (spec ∷ [])
+IsReadAsCondition text (Err fault) = IsFault mode.Condition text fault × (fault ≢ OutOfMemory)
 
 -- by what the text is read as
-abbrev pub outcome_of : Result Spec SpecFault → ToldResult Spec
-outcome_of (Ok spec) = Ok spec
-outcome_of (Err fault) = Err (misread (SpecWrong fault) [])
+abbrev pub condition_told : Result Spec SpecFault → ToldResult Spec
+condition_told (Ok spec) = Ok spec
+condition_told (Err fault) = Err (misread (SpecWrong fault) [])
 
 pub record IsCondition (text : List ℕ) (out : ToldResult Spec) : Type 0 where
   pub read : Result Spec SpecFault
-  pub right : IsReadAs text read
-  pub is : out ≡ outcome_of read
+  pub right : IsReadAsCondition text read
+  pub is : out ≡ condition_told read
 
 -- texts, from a place on; the place is the key
 abbrev pub texts_at : ℕ → List (List ℕ) → List (List ℕ × List ℕ)
@@ -82,8 +82,8 @@ IsWhen ms = do
 abbrev pub keys : List (List ℕ)
 keys = codes "any_of" ∷ codes "message" ∷ codes "one_of" ∷ codes "when" ∷ []
 
-abbrev pub entry_of : Bool → List Spec → List Spec → Condition → RequireEntry
-entry_of one_of any one when = record { specs = if one_of then one else any; one_of = one_of; when = when }
+abbrev pub required_entry : Bool → List Spec → List Spec → Condition → RequireEntry
+required_entry one_of any one when = record { specs = if one_of then one else any; one_of = one_of; when = when }
 
 abbrev pub IsObject : Data → Told RequireEntry
 IsObject d = do
@@ -93,7 +93,7 @@ IsObject d = do
   message ← told_by (may (text_of Some) (codes "message") ms)
   one ← AreChoices (codes "one_of") ms
   when ← IsWhen ms
-  done (entry_of one_of any one when)
+  done (required_entry one_of any one when)
 
 -- one condition, everywhere
 abbrev pub only : Spec → RequireEntry
@@ -105,12 +105,12 @@ IsOnly text = do
   done (only spec)
 
 -- a text, or an object
-abbrev pub IsItemBy : Option (List ℕ) → Data → Told RequireEntry
-IsItemBy (Some text) d = IsOnly text
-IsItemBy None d = IsObject d
+abbrev pub IsRequirementBy : Option (List ℕ) → Data → Told RequireEntry
+IsRequirementBy (Some text) d = IsOnly text
+IsRequirementBy None d = IsObject d
 
-abbrev pub IsItem : Data → Told RequireEntry
-IsItem d = IsItemBy (as_str d) d
+abbrev pub IsRequirement : Data → Told RequireEntry
+IsRequirement d = IsRequirementBy (as_str d) d
 
 -- ---- all that is asked
 
@@ -123,7 +123,7 @@ AreOnly text = do
 -- a text alone, or a list of items
 abbrev pub AreRequiredBy : Option (List ℕ) → Data → Told (List RequireEntry)
 AreRequiredBy (Some text) d = AreOnly text
-AreRequiredBy None d = IsListOf IsItem d
+AreRequiredBy None d = IsListOf IsRequirement d
 
 abbrev pub AreRequired : Data → Told (List RequireEntry)
 AreRequired d = AreRequiredBy (as_str d) d

@@ -7,7 +7,7 @@ ghost use Rattle.settings_reader.specs.Told.{Below, Tells};
 ghost use Rattle.settings_reader.specs.Parsed.{IsOptional};
 ghost use Rattle.settings_reader.specs.Required.{AreChoices, AreConditions, AreOnly};
 ghost use Rattle.settings_reader.specs.Required.{AreRequired, AreRequiredAt, IsChoice, IsCondition, IsObject};
-ghost use Rattle.settings_reader.specs.Required.{IsOnly, IsWhen, IsWhenBy, entry_of, everywhere};
+ghost use Rattle.settings_reader.specs.Required.{IsOnly, IsWhen, IsWhenBy, required_entry, everywhere};
 ghost use Rattle.settings_reader.specs.Required.{only};
 
 use crate::lists::TextList;
@@ -25,9 +25,9 @@ use std::alloc::{AllocError, Global};
 pub(crate) struct ItemForm;
 
 impl Parser<RequireEntry> for ItemForm {
-    ghost use Rattle.settings_reader.specs.Required.{IsItem};
+    ghost use Rattle.settings_reader.specs.Required.{IsRequirement};
 
-    ghost tells = { λ _. IsItem };
+    ghost tells = { λ _. IsRequirement };
 
     fn parse(&self, alloc: Global, value: &Value) -> Result<RequireEntry, Stop> {
         match value.as_str() {
@@ -118,11 +118,11 @@ fn parse_object(alloc: Global, value: &Value) -> Result<RequireEntry, Stop>
     drop(message);
     let one = choices_at(alloc, members, "one_of")?;
     let when = when_in(alloc, members)?;
-    Ok(entry_of(one_of, any, one, when))
+    Ok(required_entry(one_of, any, one, when))
 }
 
-fn entry_of(one_of: bool, any: List<Spec>, one: List<Spec>, when: Condition) -> RequireEntry
-    ensures { result ≡ entry_of one_of any one when }
+fn required_entry(one_of: bool, any: List<Spec>, one: List<Spec>, when: Condition) -> RequireEntry
+    ensures { result ≡ required_entry one_of any one when }
 {
     let specs = if one_of { one } else { any };
     RequireEntry {

@@ -1,17 +1,15 @@
 -- From marks to places by bytes of hashes.
-use Rattle.std.proofs.Common.{◌≡◌, ◌↔◌, refl, sym, ap, subst, ◌∙◌, ℕ, ◌+◌, ◌<◌, ◌≤◌, Bool, true, false, List, [], ◌∷◌, ◌++◌, length, get_or, set, take, map, filter, All, Contains, Some, IsTrue, ◌⊎◌, inl, inr, ⊎_elim, arith}
+use Rattle.std.proofs.Common.{◌≡◌, ◌↔◌, refl, sym, ap, subst, ◌∙◌, ℕ, ◌+◌, ◌<◌, ◌≤◌, Bool, true, false, List, [], ◌∷◌, ◌++◌, length, get_or, set, take, map, filter, All, Contains, Some, IsTrue, ◌⊎◌, ⊎_elim, arith}
 use Rattle.std.specs.List.{slice_get}
-use Rattle.std.proofs.lemmas.Bool.{cases_eq, cases_lt, cases_Bool, false≢true}
+use Rattle.std.proofs.lemmas.Bool.{cases_lt, false≢true}
 use Rattle.std.proofs.lemmas.List.{get_or_default, get_or_append_left, get_or_push, get_or-set_same, get_or-set_other, get_or_past, length_push, length-set, take_more, map-append, append-nil}
 use Rattle.std.proofs.lemmas.List.Elements.{All-nil, All-head, All-tail, All-push, All-contains, Contains-append_left, Contains-push, filter-append}
 use Rattle.reachability.specs.Places.{IsAt, IsMarked}
-use Rattle.reachability.proofs.CountLaws.{has_first, has_later, first_or_later, has_image, image_of}
+use Rattle.reachability.proofs.CountLaws.{has_image, image_of}
 use Rattle.reachability.proofs.SpreadLaws.{from_filter, in_filter}
 use Rattle.keyed_lists.specs.OfVariantValues.Texts.{byte_cmp}
-use Rattle.keyed_lists.specs.Keyed.{IsInOrder}
 use Rattle.keyed_lists.proofs.RiseLaws.{all_from}
 use Rattle.std.specs.List.Sorted.{IsStrictlySortedBy}
-use Rattle.graph_core.specs.Graphs.{Text}
 use Rattle.reuse_db.specs.Databases.{hashes_of}
 use Rattle.reuse_db.specs.declared.record.Record.{Record}
 use Rattle.condition_rules.specs.OfSpecGrammar.Part.{Part}
@@ -19,10 +17,11 @@ use Rattle.condition_rules.specs.OfSpecGrammar.Spec.{Spec}
 use Rattle.condition_rules.specs.Worlds.{World}
 use Rattle.condition_rules.specs.Meets.{meets}
 use Rattle.spec_find.specs.declared.order.Placed.{Placed}
-use Rattle.spec_find.specs.Found.{IsMetBelow, MeetsSpec, AreFound, placed_hash, installed_node}
+use Rattle.spec_find.specs.Found.{IsMetBelow, MeetsSpec, AreFound, placed_hash}
+use Rattle.reuse_db.specs.Installed.{installed_node}
 use Rattle.spec_find.specs.Orders.{hash_of, AreByHash}
 use Rattle.spec_find.specs.Marks.{AreMarks, MeetsParts}
-use Rattle.spec_find.proofs.OrderLaws.{got_lt, got_is, hash_there, record_there, in_order-filter}
+use Rattle.spec_find.proofs.OrderLaws.{got_lt, record_there, in_order-filter}
 
 -- ---- marks, record by record
 
@@ -54,8 +53,12 @@ module _ (records : List Record) (Holds : Record → Type 0) where
         (cases_lt place end);
   }
 
-  pub marks_all : (end : ℕ) (marks : List Bool) → AreMarksBefore records Holds end marks → length records ≤ end → AreMarks records Holds marks
-  marks_all end marks are all = record { exact = λ place entry got. are.exact place entry (omega (arith, got_lt records place entry got, all)) got }
+  pub marks_all : (end : ℕ) (marks : List Bool) → AreMarksBefore records Holds end marks → length records ≤ end
+      → AreMarks records Holds marks
+  marks_all end marks are all = record {
+    exact =
+        λ place entry got. are.exact place entry (omega (arith, got_lt records place entry got, all)) got;
+  }
 
 -- ---- parts, one after another
 
@@ -69,7 +72,8 @@ module _ (world : World) (records : List Record) (top : Part) where
   )
 
   -- one part more
-  pub one_more_part : (parts : List Part) (part : Part) (marks met both : List Bool) → AreMarks records (MeetsParts world records top parts) marks
+  pub one_more_part : (parts : List Part) (part : Part) (marks met both : List Bool)
+      → AreMarks records (MeetsParts world records top parts) marks
       → AreMarks records (λ entry. IsMetBelow world records entry part) met
       → ((place : ℕ) → IsMarked both place ↔ (IsMarked marks place × IsMarked met place))
       → AreMarks records (MeetsParts world records top (parts ++ part ∷ [])) both
@@ -83,7 +87,11 @@ module _ (world : World) (records : List Record) (top : Part) where
             below = All-push (IsMetBelow world records entry) parts part before.below ((met_told.exact place entry got).0 two.1);
           },
       λ meets_all. (both_told place).1 (
-        (told.exact place entry got).1 (record { top = meets_all.top; below = front (IsMetBelow world records entry) parts part meets_all.below }),
+        (told.exact place entry got).1 (record {
+          top = meets_all.top;
+          below =
+              front (IsMetBelow world records entry) parts part meets_all.below;
+        }),
         (met_told.exact place entry got).1 (last (IsMetBelow world records entry) parts part meets_all.below),
       ),
     );

@@ -1,6 +1,6 @@
 -- Chains of dependencies, and paths from records to those that need them.
-use Rattle.std.proofs.Common.{◌≡◌, ◌↔◌, cond, refl, sym, ap, subst, ◌∙◌, ℕ, ◌+◌, ◌<◌, Bool, true, false, not, List, [], ◌∷◌, ◌++◌, length, get_or, take, map, filter, All, Contains, Option, Some, None, ◌⊎◌, inl, inr, ⊎_elim, arith}
-use Rattle.std.specs.List.{AllZip, find, list_any, slice_get, flat_map}
+use Rattle.std.proofs.Common.{◌≡◌, ◌↔◌, cond, refl, sym, ap, subst, ◌∙◌, ℕ, ◌+◌, ◌<◌, Bool, true, false, not, List, [], ◌∷◌, ◌++◌, length, get_or, take, map, filter, Contains, Option, Some, None, ◌⊎◌, ⊎_elim, arith}
+use Rattle.std.specs.List.{find, list_any, slice_get}
 use Rattle.std.specs.Str.{bytes_eq}
 use Rattle.std.specs.Cmp.Lexicographic.{bytes_decides}
 use Rattle.std.proofs.lemmas.Bool.{and_cases, false≢true}
@@ -10,14 +10,14 @@ use Rattle.std.proofs.lemmas.Map.Views.{Contains-from_any}
 use Rattle.std.proofs.lemmas.List.Elements.{filter-append}
 use Rattle.reachability.specs.Paths.{Path, HasArc}
 use Rattle.reachability.specs.Places.{IsAt, AreOnce, AreNumbered, AreHeads, AreWithin, LeadsTo}
-use Rattle.reachability.proofs.CountLaws.{has_first, has_later, first_or_later, has_image, image_of}
+use Rattle.reachability.proofs.CountLaws.{first_or_later, has_image, image_of}
 use Rattle.reachability.proofs.HeadLaws.{number_path, zip_push}
 use Rattle.reachability.proofs.PathLaws.{one_arc, two_paths, along, carried}
 use Rattle.graph_core.specs.Graphs.{Text}
 use Rattle.reuse_db.specs.declared.record.Dependency.{Dependency}
 use Rattle.reuse_db.specs.Databases.{AreRecords, hashes_of, is_lost, dangling, lost_or}
 use Rattle.reuse_db.specs.declared.record.Record.{Record}
-use Rattle.spec_find.specs.Found.{is_kept, links_of, links_in, IsChained}
+use Rattle.spec_find.specs.Found.{is_kept, links_of, links_in}
 use Rattle.spec_find.specs.Marks.{flip, flipped, AreParents}
 use Rattle.spec_find.proofs.OrderLaws.{got_lt, got_is, hash_there}
 
@@ -75,7 +75,8 @@ pub kept_there : (records : List Record) → AreRecords records → (place : ℕ
     → (d : Dependency) → Contains entry.dependencies d → is_kept d ≡ true → Contains (hashes_of records) d.hash
 kept_there records right place entry got d has kept =
     let there : Contains records entry = (place, got_lt records place entry got, got_is records place entry entry got) in
-    let not_lost = found_none (is_lost (hashes_of records)) entry.dependencies (lost_none (hashes_of records) records right.known entry there) d has in
+    let not_lost = found_none (is_lost (hashes_of records)) entry.dependencies
+    (lost_none (hashes_of records) records right.known entry there) d has in
     ⊎_elim
     (λ fails. absurd (false≢true (sym fails ∙ kept)))
     (λ known. Contains-from_any {eq = bytes_eq} (λ x y e. (bytes_decides x y).0 e) d.hash (hashes_of records)
@@ -111,7 +112,14 @@ pub links_kept : (entry : Record) (done : ℕ) (d : Dependency) → done < lengt
     → flipped (map (λ x. (entry.hash, x.hash)) (filter is_kept (take (done + 1) entry.dependencies)))
     ≡ flipped (map (λ x. (entry.hash, x.hash)) (filter is_kept (take done entry.dependencies))) ++ (d.hash, entry.hash) ∷ []
 links_kept entry done d lt is kept =
-    rw (take_more entry.dependencies done d lt, ← is, filter-append is_kept (take done entry.dependencies) (d ∷ []), kept, map-append, map-append) refl
+    rw (
+      take_more entry.dependencies done d lt,
+      ← is,
+      filter-append is_kept (take done entry.dependencies) (d ∷ []),
+      kept,
+      map-append,
+      map-append,
+    ) refl
 
 -- and of one that is not
 pub links_same : (entry : Record) (done : ℕ) (d : Dependency) → done < length entry.dependencies → d ≡ get_or entry.dependencies done d
@@ -131,10 +139,13 @@ same_dependencies records place e entry items got got_other is =
 
 -- one arc more, of a dependency that is kept
 pub one_arc_more : (records : List Record) (place : ℕ) (entry : Record) → slice_get records place ≡ Some entry → (done : ℕ) (d : Dependency)
-    → done < length entry.dependencies → d ≡ get_or entry.dependencies done d → is_kept d ≡ true → (a : ℕ) → IsAt (hashes_of records) d.hash a
+    → done < length entry.dependencies → d ≡ get_or entry.dependencies done d → is_kept d ≡ true → (a : ℕ)
+    → IsAt (hashes_of records) d.hash a
     → (links : List (Text × Text)) (arcs : List (ℕ × ℕ))
-    → AreNumbered (hashes_of records) (links ++ flipped (map (λ x. (entry.hash, x.hash)) (filter is_kept (take done entry.dependencies)))) arcs
-    → AreNumbered (hashes_of records) (links ++ flipped (map (λ x. (entry.hash, x.hash)) (filter is_kept (take (done + 1) entry.dependencies))))
+    → AreNumbered (hashes_of records) (links ++ flipped (map (λ x. (entry.hash, x.hash)) (filter is_kept (take done entry.dependencies))))
+    arcs
+    → AreNumbered (hashes_of records) (links ++ flipped
+    (map (λ x. (entry.hash, x.hash)) (filter is_kept (take (done + 1) entry.dependencies))))
     (arcs ++ (a, place) ∷ [])
 one_arc_more records place entry got done d lt is kept a at links arcs so_far =
     subst (λ l. AreNumbered (hashes_of records) (links ++ l) (arcs ++ (a, place) ∷ [])) (sym (links_kept entry done d lt is kept))
@@ -146,7 +157,8 @@ pub links_more : (records : List Record) (place : ℕ) (entry : Record) → slic
     → flipped (links_in (take (place + 1) records)) ≡ flipped (links_in (take place records)) ++ flipped (links_of entry)
 links_more records place entry got =
     let lt = got_lt records place entry got in
-    ap flipped (ap links_in (take_more records place entry lt ∙ ap (λ x. take place records ++ x ∷ []) (got_is records place entry entry got))
+    ap flipped (ap links_in (take_more records place entry lt
+    ∙ ap (λ x. take place records ++ x ∷ []) (got_is records place entry entry got))
     ∙ flat_map-append links_of (take place records) (entry ∷ [])
     ∙ ap (λ l. links_in (take place records) ++ l) (append-nil (links_of entry)))
     ∙ map-append flip (links_in (take place records)) (links_of entry)

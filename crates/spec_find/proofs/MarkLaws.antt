@@ -1,5 +1,5 @@
 -- Marks of records: one place more leads to all starts of a search.
-use Rattle.std.proofs.Common.{◌≡◌, ◌↔◌, refl, sym, ap, subst, ◌∙◌, ℕ, ◌+◌, ◌<◌, ◌≤◌, Bool, true, false, List, [], ◌∷◌, ◌++◌, length, get_or, replicate, All, Contains, Some, None, Result, Ok, Err, IfOk, IsTrue, ◌⊎◌, inl, inr, ⊎_elim, arith}
+use Rattle.std.proofs.Common.{◌≡◌, refl, sym, ap, subst, ◌∙◌, ℕ, ◌+◌, ◌<◌, Bool, false, List, [], ◌∷◌, ◌++◌, length, get_or, replicate, All, Contains, Some, None, Result, Ok, Err, IfOk, IsTrue, ◌⊎◌, inl, inr, ⊎_elim, arith}
 use Rattle.std.specs.List.{slice_get}
 use Rattle.std.proofs.lemmas.Bool.{cases_lt, false≢true}
 use Rattle.std.proofs.lemmas.List.{get_or_append_left, get_or_past, get_or_push, length_push}
@@ -10,12 +10,12 @@ use Rattle.reachability.proofs.PathLaws.{one_arc, arc_before, along, first_arc, 
 use Rattle.reachability.proofs.SearchLaws.{no_marks}
 use Rattle.keyed_lists.proofs.RiseLaws.{all_from}
 use Rattle.graph_core.specs.Graphs.{Text}
-use Rattle.reuse_db.specs.Databases.{hashes_of}
 use Rattle.reuse_db.specs.declared.record.Record.{Record}
 use Rattle.condition_rules.specs.OfSpecGrammar.Part.{Part}
 use Rattle.condition_rules.specs.Worlds.{World}
 use Rattle.condition_rules.specs.Holds.{suits}
-use Rattle.spec_find.specs.Found.{IsChained, IsMetBelow, installed_node}
+use Rattle.spec_find.specs.Found.{IsMetBelow}
+use Rattle.reuse_db.specs.Installed.{installed_node}
 use Rattle.spec_find.specs.Marks.{AreParents, SuitsAt, AreStarts, AreAbove, AreMarks}
 use Rattle.spec_find.proofs.OrderLaws.{got_lt, got_is, got_from, hash_there}
 
@@ -36,7 +36,8 @@ module _ (parents : List (List ℕ)) (starts : List ℕ) (within : AreWithin par
       (All-weaker (All (λ q. q < length parents)) (All (λ q. q < length longer)) more parents within) (more starts low)
     where
       more : (places : List ℕ) → All (λ q. q < length parents) places → All (λ q. q < length (parents ++ starts ∷ [])) places
-      more = All-weaker (λ q. q < length parents) (λ q. q < length (parents ++ starts ∷ [])) (λ q lt. omega (arith, lt, length_push parents starts))
+      more = All-weaker (λ q. q < length parents) (λ q. q < length (parents ++ starts ∷ []))
+          (λ q lt. omega (arith, lt, length_push parents starts))
 
   old_arc : (p q : ℕ) → p < length parents → LeadsTo longer p q → LeadsTo parents p q
   old_arc p q lt arc = subst (λ l. Contains l q) (get_or_append_left parents (starts ∷ []) [] p lt) arc
@@ -48,7 +49,8 @@ module _ (parents : List (List ℕ)) (starts : List ℕ) (within : AreWithin par
       (cases_lt p (length parents))
 
   arc_within : (p q : ℕ) → p < length parents → LeadsTo parents p q → q < length parents
-  arc_within p q lt arc = All-contains (λ x. x < length parents) (get_or parents p []) q (All-get_or (All (λ x. x < length parents)) parents p [] lt within) arc
+  arc_within p q lt arc = All-contains (λ x. x < length parents) (get_or parents p []) q
+      (All-get_or (All (λ x. x < length parents)) parents p [] lt within) arc
 
   -- a path from an old place is an old one
   old_path : (p q : ℕ) → p < length parents → Path (LeadsTo longer) p q → Path (LeadsTo parents) p q
@@ -129,7 +131,8 @@ module _ (world : World) (records : List Record) (parents : List (List ℕ)) (pa
       → All (λ s. s < length parents) starts
   starts_low starts are told = all_from (λ s. s < length parents) starts (λ i has.
       let w = (told.exact i).0 has in
-      All-contains (λ x. x < length parents) (get_or parents w.0 []) i (All-get_or (All (λ x. x < length parents)) parents w.0 [] (omega (arith, w.1, are.each)) are.within) w.3)
+      All-contains (λ x. x < length parents) (get_or parents w.0 []) i
+      (All-get_or (All (λ x. x < length parents)) parents w.0 [] (omega (arith, w.1, are.each)) are.within) w.3)
 
   -- what is marked is what the part is met below
   pub met_where_marked : (starts : List ℕ) (marks : List Bool) → part.name ≡ Some name → AreParents records parents

@@ -1,5 +1,5 @@
 -- Records by bytes of their hashes: a sort of hashes that differ makes them rise.
-use Rattle.std.proofs.Common.{◌≡◌, refl, sym, ap, subst, ◌∙◌, ℕ, zero, suc, ◌+◌, ◌<◌, ◌≤◌, Bool, true, false, List, [], ◌∷◌, ◌++◌, length, get_or, take, map, filter, cond, All, Contains, Some, None, ◌⊎◌, inl, inr, ⊎_elim, arith}
+use Rattle.std.proofs.Common.{◌≡◌, refl, sym, ap, subst, ◌∙◌, ℕ, zero, suc, ◌+◌, ◌<◌, Bool, true, false, List, [], ◌∷◌, ◌++◌, length, get_or, take, map, filter, cond, All, Contains, Some, None, ◌⊎◌, ⊎_elim, arith}
 use Rattle.std.specs.List.{IsDistinct, slice_get}
 use Rattle.std.specs.List.Sorted.{IsSortedBy, IsPermutation, IsStrictlySortedBy}
 use Rattle.std.specs.Ordering.{is_lt, ordering_reverse}
@@ -113,7 +113,8 @@ below p q fails differ = ap is_lt (nat_list_cmp_total.antisymm p q)
     ∙ below_by p q (byte_cmp q p) refl fails (λ same. absurd (false≢true (sym differ ∙ (bytes_decides p q).1 same)))
 
 module _ {X : Type 0} (key : X → Text) where
-  rising : (xs : List X) → IsSortedBy (λ a b. is_lt (byte_cmp (key a) (key b))) xs → IsDistinct bytes_eq (map key xs) → rises byte_cmp (map key xs) ≡ true
+  rising : (xs : List X) → IsSortedBy (λ a b. is_lt (byte_cmp (key a) (key b))) xs → IsDistinct bytes_eq (map key xs)
+      → rises byte_cmp (map key xs) ≡ true
   unfolding IsDistinct
   rising [] sorted distinct = refl
   rising (x ∷ []) sorted distinct = refl
@@ -125,7 +126,8 @@ module _ {X : Type 0} (key : X → Text) where
       (sorted (suc k) d (omega arith) (omega (arith, lt)))) distinct.1)
 
   -- what is sorted and distinct is in order
-  pub in_order : (xs : List X) → IsSortedBy (λ a b. is_lt (byte_cmp (key a) (key b))) xs → IsDistinct bytes_eq (map key xs) → IsInOrder byte_cmp key xs
+  pub in_order : (xs : List X) → IsSortedBy (λ a b. is_lt (byte_cmp (key a) (key b))) xs → IsDistinct bytes_eq (map key xs)
+      → IsInOrder byte_cmp key xs
   in_order xs sorted distinct = (rises_decides byte_cmp nat_list_cmp_total (map key xs)).0 (rising xs sorted distinct)
 
   -- what passes of a list in order is in order
@@ -175,7 +177,8 @@ placed_none records = record {
   each = λ place lt. absurd (omega (arith, lt));
 }
 
-pub placed_more : (records : List Record) (end : ℕ) (order : List Placed) (placed : Placed) (entry : Record) → ArePlacedBefore records end order
+pub placed_more : (records : List Record) (end : ℕ) (order : List Placed) (placed : Placed) (entry : Record)
+    → ArePlacedBefore records end order
     → slice_get records end ≡ Some entry → hash_of placed ≡ entry.hash → placed.place ≡ end
     → ArePlacedBefore records (end + 1) (order ++ placed ∷ [])
 placed_more records end order placed entry so_far got is at = record {
@@ -192,7 +195,8 @@ placed_more records end order placed entry so_far got is at = record {
       (λ le. (placed, Contains-push order placed, at ∙ omega (arith, lt, le))) (cases_lt place end);
 }
 
-pub placed_all : (records : List Record) (end : ℕ) (order : List Placed) → ArePlacedBefore records end order → end ≡ length records → ArePlaced records order
+pub placed_all : (records : List Record) (end : ℕ) (order : List Placed) → ArePlacedBefore records end order → end ≡ length records
+    → ArePlaced records order
 placed_all records end order are all = record {
   hashes = are.hashes ∙ take_all end (hashes_of records) (omega (arith, all, length-map records (λ (e : Record). e.hash)));
   places = are.places;

@@ -5,29 +5,15 @@ use Rattle.graph_core.specs.Graphs.{Text}
 use Rattle.graph_core.specs.OfVariantValues.Texts.{byte_cmp}
 use Rattle.graph_core.specs.OfKeyedLists.Keyed.{IsInOrder}
 use Rattle.graph_core.specs.OfReachability.Paths.{Path, HasArc}
-use Rattle.graph_core.specs.declared.node.Node.{Node}
 use Rattle.reuse_db.specs.declared.record.Dependency.{Dependency}
-use Rattle.graph_core.specs.declared.node.Origin.TheVariants.{Installed}
 use Rattle.reuse_db.specs.Databases.{hashes_of}
+use Rattle.reuse_db.specs.Installed.{installed_node}
 use Rattle.reuse_db.specs.declared.record.Record.{Record}
 use Rattle.condition_rules.specs.OfSpecGrammar.Part.{Part}
 use Rattle.condition_rules.specs.OfSpecGrammar.Spec.{Spec}
 use Rattle.condition_rules.specs.Worlds.{World}
 use Rattle.condition_rules.specs.Meets.{meets}
 use Rattle.condition_rules.specs.Holds.{suits}
-
--- the node of a record: it has the record's attributes, and is installed
-abbrev pub installed_node : Record → Node
-installed_node entry = record {
-  name = entry.name;
-  version = entry.version;
-  variants = entry.variants;
-  compiler = entry.compiler;
-  os = entry.os;
-  target = entry.target;
-  prefix = entry.external;
-  origin = Installed entry.hash;
-}
 
 -- it is needed to link or to run, and not to build alone
 abbrev pub is_kept : Dependency → Bool

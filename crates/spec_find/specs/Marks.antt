@@ -9,7 +9,8 @@ use Rattle.condition_rules.specs.OfSpecGrammar.Part.{Part}
 use Rattle.condition_rules.specs.Worlds.{World}
 use Rattle.condition_rules.specs.Meets.{meets}
 use Rattle.condition_rules.specs.Holds.{suits}
-use Rattle.spec_find.specs.Found.{IsChained, IsMetBelow, installed_node}
+use Rattle.spec_find.specs.Found.{IsChained, IsMetBelow}
+use Rattle.reuse_db.specs.Installed.{installed_node}
 
 -- the same pair, the second first
 abbrev pub flip : {A : Type 0} → A × A → A × A

@@ -1,5 +1,5 @@
 -- Records by bytes of their hashes.
-use Rattle.std.specs.Prelude.{◌≡◌, ℕ, ◌<◌, List, map, length, All, Contains, slice_index_or}
+use Rattle.std.specs.Prelude.{◌≡◌, ℕ, ◌<◌, List, map, length, All, Contains}
 use Rattle.graph_core.specs.Graphs.{Text}
 use Rattle.graph_core.specs.OfVariantValues.Texts.{byte_cmp}
 use Rattle.graph_core.specs.OfKeyedLists.Keyed.{IsInOrder}

@@ -1,30 +1,12 @@
-// The node that stands for a record, and what parts of a spec ask of it.
+// What parts of a spec ask of the node that stands for a record.
 ghost use Rattle.std.specs.Prelude.{◌≡◌, IfOk};
 ghost use Rattle.condition_rules.specs.Meets.{meets, meets_name};
 ghost use Rattle.condition_rules.specs.Holds.{suits};
-ghost use Rattle.spec_find.specs.Found.{installed_node};
+ghost use Rattle.reuse_db.specs.Installed.{installed_node};
 
 use condition_rules::{Part, World, meets, suits};
-use graph_core::{Node, Origin};
-use plain_data::Duplicate;
-use reuse_db::Record;
+use reuse_db::{Record, installed_node};
 use std::alloc::{AllocError, Global};
-
-/// The node of a record: it has the record's attributes, and is installed.
-pub fn installed_node(alloc: Global, entry: &Record) -> Result<Node, AllocError>
-    ensures { IfOk result (λ node. node ≡ installed_node entry.now) }
-{
-    Ok(Node {
-        name: entry.name.duplicate(alloc)?,
-        version: entry.version.duplicate(alloc)?,
-        variants: entry.variants.duplicate(alloc)?,
-        compiler: entry.compiler.duplicate(alloc)?,
-        os: entry.os.duplicate(alloc)?,
-        target: entry.target.duplicate(alloc)?,
-        prefix: entry.external.duplicate(alloc)?,
-        origin: Origin::Installed(entry.hash),
-    })
-}
 
 /// Whether a part holds at a record's node, which is only made where the names agree.
 pub(crate) fn record_meets(
@@ -51,7 +33,8 @@ pub(crate) fn record_suits(
     name: &str,
     entry: &Record,
 ) -> Result<bool, AllocError>
-    ensures { IfOk result (λ is. is ≡ suits world.now part.now name.now (installed_node entry.now)) }
+    ensures { IfOk result (λ is. is ≡ suits world.now part.now name.now
+        (installed_node entry.now)) }
 {
     if !world.is_virtual(name) && !has_name(part, entry) {
         return Ok(false);
@@ -60,6 +43,7 @@ pub(crate) fn record_suits(
     Ok(suits(world, part, name, &node))
 }
 
+#[tactic(auto, unfolding(reuse_db::specs::Installed::installed_node))]
 fn has_name(part: &Part, entry: &Record) -> bool
     ensures { result ≡ meets_name part.now (installed_node entry.now) }
 {

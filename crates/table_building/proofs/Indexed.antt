@@ -142,7 +142,8 @@ module _ (variant : Text) where
       let others = flat_map (λ (n : Node). n.variants) kept in
       let first = of_rows can rows in
       let rest = of_nodes kept in
-      ap (λ (es : List (Text × List Text)). with_texts [] (Joined es)) (same variant ∙ filter-append (λ (e : Text × List Text). bytes_eq e.0 variant) built others)
+      ap (λ (es : List (Text × List Text)). with_texts [] (Joined es)) (same variant
+      ∙ filter-append (λ (e : Text × List Text). bytes_eq e.0 variant) built others)
       ∙ ap (with_texts []) (flat_map-append (λ (e : Text × List Text). e.1) (Named built) (Named others) ∙ (λ i. first i ++ rest i))
 
 -- a variant with its values

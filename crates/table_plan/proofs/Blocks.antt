@@ -1,6 +1,6 @@
 -- The block of a name spells its node.
-use Rattle.std.proofs.Common.{◌≡◌, refl, sym, ap, subst, ◌∙◌, ℕ, ◌+◌, Bool, true, false, List, [], ◌∷◌, ◌++◌, map, length, Option, Some, None, Contains, All, ◌⊎◌, inl, inr, ⊎_elim, arith}
-use Rattle.std.specs.Option.{is_some, option_eq}
+use Rattle.std.proofs.Common.{◌≡◌, refl, sym, ap, subst, ◌∙◌, ℕ, ◌+◌, Bool, List, [], ◌∷◌, ◌++◌, map, length, Option, Some, None, Contains, ◌⊎◌, inl, inr, ⊎_elim, arith}
+use Rattle.std.specs.Option.{option_eq}
 use Rattle.std.specs.Str.{bytes_eq}
 use Rattle.std.specs.Cmp.Lexicographic.{bytes_decides}
 use Rattle.std.proofs.lemmas.List.{length-map, length-append}
@@ -12,14 +12,14 @@ use Rattle.graph_core.specs.Graphs.{Text}
 use Rattle.graph_core.specs.declared.node.Node.{Node}
 use Rattle.condition_rules.specs.Words.{is_one_text, is_some_and}
 use Rattle.problem.specs.Problems.{same_compiler}
-use Rattle.literal_table.specs.Choices.{Choices, chosen}
+use Rattle.literal_table.specs.Choices.{Choices}
 use Rattle.literal_table.specs.Tables.{AreVariantsInOrder, variant_of, value_of}
 use Rattle.literal_table.specs.Spells.{SpellsNode, values_at, variants_of}
 use Rattle.problem.specs.Nodes.{same_origin}
 use Rattle.table_plan.specs.Offers.{Offers, OffersVariant, IsPossible, AreVariants}
 use Rattle.table_plan.specs.declared.plan.Possible.{Possible}
 use Rattle.table_plan.proofs.ExactTests.{origins_exact, options_exact, compilers_exact}
-use Rattle.table_plan.specs.Numbers.{positive_lit, numbered, variants_from, width_of, value_count, block_width, block_at, block_from}
+use Rattle.table_plan.specs.Numbers.{positive_lit, numbered, variants_from, width_of, value_count, block_width, block_from}
 use Rattle.table_plan.specs.Spellings.{bits_of, value_bits, node_bits}
 use Rattle.table_plan.proofs.ReadLaws.{Reads, reads_parts}
 use Rattle.table_plan.proofs.Choices.{attribute_reads, variants_spelled}

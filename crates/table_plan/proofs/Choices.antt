@@ -1,7 +1,7 @@
 -- What is chosen by numbered literals.
-use Rattle.std.proofs.Common.{◌≡◌, refl, sym, ap, subst, ◌∙◌, ℕ, ◌+◌, Bool, true, false, cond, List, [], ◌∷◌, ◌++◌, map, length, find, Option, Some, None, Contains, All, ◌⊎◌, inl, inr, ⊎_elim, arith}
+use Rattle.std.proofs.Common.{◌≡◌, refl, sym, ap, subst, ◌∙◌, ℕ, ◌+◌, Bool, true, false, cond, List, [], ◌∷◌, map, length, find, Option, Some, None, Contains, ◌⊎◌, ⊎_elim, arith}
 use Rattle.std.specs.List.{filter, filter_map, cons_option}
-use Rattle.std.specs.Option.{is_some, option_map, option_to_list}
+use Rattle.std.specs.Option.{is_some}
 use Rattle.std.specs.Str.{bytes_eq}
 use Rattle.std.specs.Cmp.Lexicographic.{bytes_decides, nat_list_cmp_total}
 use Rattle.std.proofs.lemmas.List.{length-map}
@@ -9,7 +9,7 @@ use Rattle.std.proofs.lemmas.List.Kept.{IsStrictlySortedBy-filter}
 use Rattle.clause_store.specs.declared.Lit.{Lit}
 use Rattle.clause_store.specs.Lits.{lit_true}
 use Rattle.reachability.specs.Laws.{IsExact}
-use Rattle.reachability.proofs.CountLaws.{has_first, has_later, first_or_later, image_of}
+use Rattle.reachability.proofs.CountLaws.{first_or_later, image_of}
 use Rattle.reachability.proofs.SpreadLaws.{from_filter, in_filter}
 use Rattle.variant_values.specs.Texts.{byte_cmp, IsInByteOrder}
 use Rattle.variant_values.proofs.Texts.{same_texts, ties_are_equal}
@@ -19,9 +19,9 @@ use Rattle.keyed_lists.proofs.GivenLaws.{is_given, filter_map-agree}
 use Rattle.graph_core.specs.Graphs.{Text}
 use Rattle.graph_core.proofs.PairLaws.{tells_alike}
 use Rattle.graph_core.specs.declared.node.Node.{Node}
-use Rattle.condition_rules.specs.Words.{is_one_text, is_some_and}
+use Rattle.condition_rules.specs.Words.{is_one_text}
 use Rattle.possible_closure.proofs.Lists.{found-there, in_among, from_among}
-use Rattle.literal_table.specs.Choices.{Choices, chosen}
+use Rattle.literal_table.specs.Choices.{chosen}
 use Rattle.literal_table.specs.Spells.{SpellsOne, with_values, chosen_variants, values_at, values_or_none}
 use Rattle.table_plan.specs.Gathering.{EachOnce}
 use Rattle.table_plan.specs.Offers.{OffersVariant, AreVariants}

@@ -16,18 +16,20 @@ use Rattle.reuse_db.specs.declared.record.Record.{Record}
 use Rattle.problem.specs.Nodes.{IsWellFormed}
 use Rattle.problem.specs.Problems.{Problem, package_entry_of, externals_in, record_at}
 use Rattle.graph_rules.specs.Built.{keeps_buildable}
-use Rattle.graph_rules.specs.Kept.{external_node, installed_node, keeps_kept}
+use Rattle.graph_rules.specs.Kept.{external_node, keeps_kept}
+use Rattle.reuse_db.specs.Installed.{installed_node}
 use Rattle.graph_rules.specs.Valid.{keeps, keeps_all, structure_rules}
 use Rattle.graph_rules.specs.declared.rule.Rule.TheVariants as rules
 use Rattle.graph_rules.proofs.Lists.{contains-In}
-use Rattle.graph_rules.proofs.ValidLaws.{at_built, slice_get-in}
+use Rattle.graph_rules.proofs.BuiltTests.{at_built}
+use Rattle.graph_rules.proofs.NumberedRows.{slice_get-in}
 use Rattle.graph_rules.proofs.KeptLaws.{installed-is, external-is}
 use Rattle.possible_closure.proofs.Lists.{passes_at, found-there}
 use Rattle.table_plan.specs.Gathering.{listed}
 use Rattle.table_plan.specs.Kept.{external_nodes, kept_nodes}
 use Rattle.table_plan.specs.Plans.{can_build, offered}
 use Rattle.table_plan.proofs.GatherLaws.{to_gathered}
-use Rattle.graph_rules.proofs.ClosureLaws.{rule, kept}
+use Rattle.graph_rules.proofs.ClosureLaws.{rule}
 
 -- what is listed under a test that passes
 pub all_listed : {X : Type 0} (b : Bool) (xs : List X) (x : X) → b ≡ true → Contains xs x → Contains (listed b xs) x

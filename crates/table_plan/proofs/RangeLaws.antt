@@ -1,19 +1,19 @@
 -- The literals of a table are over its variables.
-use Rattle.std.proofs.Common.{◌≡◌, refl, sym, ap, subst, ◌∙◌, ℕ, ◌+◌, ◌*◌, ◌<◌, ◌≤◌, List, [], ◌∷◌, ◌++◌, map, length, All, Contains, ⊎_elim, arith}
+use Rattle.std.proofs.Common.{subst, ℕ, ◌+◌, ◌<◌, ◌≤◌, List, [], ◌∷◌, ◌++◌, length, Contains, ⊎_elim, arith}
 use Rattle.std.specs.List.{flat_map}
 use Rattle.clause_store.specs.declared.Lit.{Lit}
-use Rattle.clause_store.specs.Lits.{var_of, AllBelow}
+use Rattle.clause_store.specs.Lits.{AllBelow}
 use Rattle.reachability.proofs.CountLaws.{first_or_later}
 use Rattle.keyed_lists.proofs.RiseLaws.{all_from}
 use Rattle.graph_core.specs.Graphs.{Text}
-use Rattle.literal_table.specs.Choices.{Choices, choice_lits}
+use Rattle.literal_table.specs.Choices.{choice_lits}
 use Rattle.literal_table.specs.declared.block.Block.{Block}
 use Rattle.literal_table.specs.declared.block.EdgeLits.{EdgeLits}
 use Rattle.literal_table.specs.declared.block.ProviderLits.{ProviderLits}
 use Rattle.table_plan.specs.declared.plan.Possible.{Possible}
 use Rattle.table_plan.specs.declared.plan.PossibleEdge.{PossibleEdge}
 use Rattle.table_plan.specs.declared.plan.Plan.{Plan}
-use Rattle.table_plan.specs.Numbers.{positive_lit, numbered, attribute, width_of, variants_from, value_count, total_width, block_width, widths, block_from, blocks_from, edge_lits_from, edge_from, edge_width, edge_widths, provider_from, providers_from, table_from, variables_of}
+use Rattle.table_plan.specs.Numbers.{positive_lit, numbered, attribute, width_of, variants_from, value_count, block_width, widths, block_from, blocks_from, edge_lits_from, edge_from, edge_width, edge_widths, provider_from, providers_from, table_from, variables_of}
 use Rattle.literal_table.specs.Ranges.{AreBelow, IsBlockBelow, IsTableBelow}
 
 append_below : (m : ℕ) (ls ks : List Lit) → AllBelow m ls → AllBelow m ks → AllBelow m (ls ++ ks)

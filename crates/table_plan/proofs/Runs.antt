@@ -1,5 +1,5 @@
 -- Runs of numbers: one element more.
-use Rattle.std.proofs.Common.{◌≡◌, refl, sym, ap, subst, ◌∙◌, ℕ, ◌+◌, ◌<◌, List, [], ◌∷◌, ◌++◌, take, get_or, length, arith}
+use Rattle.std.proofs.Common.{◌≡◌, refl, sym, ap, ◌∙◌, ℕ, ◌+◌, ◌<◌, List, [], ◌∷◌, ◌++◌, take, get_or, length, arith}
 use Rattle.std.proofs.lemmas.List.{take_more}
 use Rattle.table_plan.specs.Numbers.{numbered_run, total_width}
 

@@ -88,7 +88,8 @@ pub(crate) fn governs(
     condition: Defined,
     later: &[(&str, &Definition)],
 ) -> Result<Formula, AllocError>
-    ensures { IfOk result (λ formula. formula ≡ governs (statement_of condition) (rows_of later.now)) }
+    ensures { IfOk result (λ formula. formula ≡ governs (statement_of condition)
+        (rows_of later.now)) }
 {
     let mut parts = Vec::new(alloc);
     push_conditions(alloc, &mut parts, later)?;

@@ -168,7 +168,8 @@ fn push_each(
     values: &[(Word, Lit)],
 ) -> Result<(), AllocError>
     ensures { OnOk result (terms.new.items ≡ terms.old.items
-        ++ flat_map (λ r. counted_terms which r values.now) (governing_rows (rows_of definitions.now))) }
+        ++ flat_map (λ r. counted_terms which r values.now)
+        (governing_rows (rows_of definitions.now))) }
 {
     for (i, one) in definitions.iter().enumerate() {
         push_counted(alloc, terms, which, one.1, &definitions[i + 1..], values)?;

@@ -28,7 +28,12 @@ module _ (bytes : List ℕ) (d : Data) (json : IsJson bytes d) where
 
     by_hashes : (o : Option Record) → differing records ≡ o → IsSaid bytes
     by_hashes (Some entry) e =
-        inr (fault.HashDiffers entry.hash (right_hash entry), inr (inr (d, json, inr (inr (records, is, (entry, e, refl, refl))))), λ same. cc)
+        inr (
+          fault.HashDiffers entry.hash (right_hash entry),
+          inr (inr (d, json, inr (inr (records, is, (entry, e, refl, refl))))),
+          λ same.
+              cc,
+        )
     by_hashes None e = elim (first_twice records) [
       | inl (hash, first) ↦ inr (fault.TwiceHash hash, inr (inr (d, json, inr (inr (records, is, (e, first))))), λ same. cc)
       | inr once ↦ by_children e once (dangling (hashes_of records) records) refl

@@ -20,7 +20,7 @@ use Rattle.settings_reader.specs.Lists.{text_list}
 use Rattle.settings_reader.specs.Parsed.{IsListAt, IsOptional, member_pairs}
 use Rattle.settings_reader.specs.Versions.{IsVersionSet}
 use Rattle.settings_reader.specs.Externals.{IsDescribed, IsExternal, described_of, external_keys, with_prefix}
-use Rattle.settings_reader.specs.Required.{AreChoices, AreConditions, AreRequired, AreRequiredAt, AreRequiredBy, IsChoice, IsCondition, IsItem, IsItemBy, IsObject, IsOnly, IsWhen, IsWhenBy, choice_by, entry_of, everywhere, keys, only, outcome_of, texts_at}
+use Rattle.settings_reader.specs.Required.{AreChoices, AreConditions, AreRequired, AreRequiredAt, AreRequiredBy, IsChoice, IsCondition, IsRequirement, IsRequirementBy, IsObject, IsOnly, IsWhen, IsWhenBy, choice_by, required_entry, everywhere, keys, only, condition_told, texts_at}
 use Rattle.settings_reader.specs.Packages.{ArePackages, ArePackagesAt, IsPackage, package_keys}
 use Rattle.total_readings.proofs.Steps.{Some-told, then_some, computed, is_done, below_some, each_some, list_some, optional_some, list_at_some}
 use Rattle.total_readings.proofs.Sets.{set_some}
@@ -37,8 +37,8 @@ module _ (total : AreTotal) where
   condition_some text = elim (total mode.Condition text) [
     | inl (specs, spells) ↦
         let one = single mode.Condition text specs refl spells in
-        (outcome_of (Ok one.0), record { read = Ok one.0; right = subst (Spells mode.Condition text) one.1 spells; is = refl })
-    | inr (fault, is, other) ↦ (outcome_of (Err fault), record { read = Err fault; right = (is, other); is = refl })
+        (condition_told (Ok one.0), record { read = Ok one.0; right = subst (Spells mode.Condition text) one.1 spells; is = refl })
+    | inr (fault, is, other) ↦ (condition_told (Err fault), record { read = Err fault; right = (is, other); is = refl })
   ]
 
   choices_some : (key : List ℕ) (ms : Members) → Some-told (AreChoices key ms)
@@ -66,21 +66,21 @@ module _ (total : AreTotal) where
       then_some (AreChoices (codes "any_of") ms) _ (choices_some (codes "any_of") ms) (λ any.
       then_some (told_by (may (text_of Some) (codes "message") ms)) _ (computed (may (text_of Some) (codes "message") ms)) (λ message.
       then_some (AreChoices (codes "one_of") ms) _ (choices_some (codes "one_of") ms) (λ one.
-      then_some (IsWhen ms) _ (when_some ms) (λ when. is_done (entry_of one_of any one when)))))))
+      then_some (IsWhen ms) _ (when_some ms) (λ when. is_done (required_entry one_of any one when)))))))
 
   only_some : (text : List ℕ) → Some-told (IsOnly text)
   only_some text = then_some (IsCondition text) _ (condition_some text) (λ spec. is_done (only spec))
 
-  item_by_some : (o : Option (List ℕ)) (d : Data) → Some-told (IsItemBy o d)
+  item_by_some : (o : Option (List ℕ)) (d : Data) → Some-told (IsRequirementBy o d)
   item_by_some (Some text) d = only_some text
   item_by_some None d = object_some d
 
-  item_some : (d : Data) → Some-told (IsItem d)
+  item_some : (d : Data) → Some-told (IsRequirement d)
   item_some d = item_by_some (as_str d) d
 
   required_by_some : (o : Option (List ℕ)) (d : Data) → Some-told (AreRequiredBy o d)
   required_by_some (Some text) d = then_some (IsOnly text) _ (only_some text) (λ entry. is_done (entry ∷ []))
-  required_by_some None d = list_some IsItem item_some d
+  required_by_some None d = list_some IsRequirement item_some d
 
   required_some : (ms : Members) → Some-told (AreRequiredAt ms)
   required_some ms =

@@ -5,3 +5,8 @@ pub mod Entries
 pub mod Files
 pub mod Searches
 pub mod Databases
+pub mod Gathered
+pub mod Locks
+pub mod Stages
+pub mod Inputs
+pub mod Posed

@@ -40,7 +40,8 @@ each_some tells some (v ∷ vs) =
 
 pub list_some : {T : Type 0} (tells : Data → Told T) → ((d : Data) → Some-told (tells d)) → (d : Data) → Some-told (IsListOf tells d)
 list_some tells some d =
-    then_some (told_by (given (as_array d))) _ (computed (given (as_array d))) (λ ds. each_some (λ key. tells) (λ key. some) (items_at 0 ds))
+    then_some (told_by (given (as_array d))) _ (computed (given (as_array d)))
+    (λ ds. each_some (λ key. tells) (λ key. some) (items_at 0 ds))
 
 pub optional_some : {T : Type 0} (tells : Data → Told (List T)) → ((d : Data) → Some-told (tells d)) → (o : Option Data)
     → Some-told (IsOptional tells o)

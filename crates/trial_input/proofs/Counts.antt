@@ -1,5 +1,5 @@
 -- Loops over a count, one step on.
-use Rattle.std.proofs.Common.{◌≡◌, ℕ, zero, suc, ◌+◌, ◌-◌, ◌<◌, ◌≤◌, ◌++◌, List, [], refl, ap, sym, ◌∙◌, append_assoc, arith}
+use Rattle.std.proofs.Common.{◌≡◌, ℕ, suc, ◌+◌, ◌-◌, ◌<◌, ◌≤◌, ◌++◌, List, refl, ap, sym, ◌∙◌, append_assoc, arith}
 use Rattle.std.proofs.lemmas.List.{append-nil}
 use Rattle.outside_desk.specs.Files.{Files}
 use Rattle.std.specs.FinMap.{insert}
@@ -30,7 +30,8 @@ pub versions_start : (from n : ℕ) → versions_left from 0 n ≡ version_lines
 versions_start from n = rw (all_left n, at_start from) refl
 
 -- a line more
-pub more_versions : (out : List ℕ) (from i n : ℕ) → i < n → (out ++ version_line (from + i)) ++ versions_left from (i + 1) n ≡ out ++ versions_left from i n
+pub more_versions : (out : List ℕ) (from i n : ℕ) → i < n → (out ++ version_line (from + i)) ++ versions_left from (i + 1) n ≡ out
+    ++ versions_left from i n
 more_versions out from i n lt =
     append_assoc out (version_line (from + i)) (versions_left from (i + 1) n)
     ∙ ap (λ s. out ++ (version_line (from + i) ++ version_lines s (n - (i + 1)))) (one_on from i)
@@ -68,8 +69,10 @@ needs_state : (packages own i n state : ℕ) → i < n
 needs_state packages own i n state lt = ap (λ m. (dependencies packages own m state).state) (sym (one_left i n lt))
 
 -- a dependency more
-pub needs_step : (before after whole : List ℕ) (packages own i n state next last : ℕ) → i < n → after ≡ before ++ (dependency packages own state).text
-    → next ≡ (dependency packages own state).state → before ++ needs_left packages own i n state ≡ whole → state_left packages own i n state ≡ last
+pub needs_step : (before after whole : List ℕ) (packages own i n state next last : ℕ) → i < n
+    → after ≡ before ++ (dependency packages own state).text
+    → next ≡ (dependency packages own state).state → before ++ needs_left packages own i n state ≡ whole
+    → state_left packages own i n state ≡ last
     → (after ++ needs_left packages own (i + 1) n next ≡ whole) × (state_left packages own (i + 1) n next ≡ last)
 needs_step before after whole packages own i n state next last lt text is done ends = (
   ap (λ o. o ++ needs_left packages own (i + 1) n next) text
@@ -91,7 +94,8 @@ abbrev pub recipes_left : ℕ → ℕ → ℕ → ℕ → ℕ → Files → File
 recipes_left packages own i n state files = with_recipes packages (own + i) (n - i) state files
 
 -- at the begin all recipes are left
-pub recipes_start : (packages own n state : ℕ) (files : Files) → recipes_left packages own 0 n state files ≡ with_recipes packages own n state files
+pub recipes_start : (packages own n state : ℕ) (files : Files)
+    → recipes_left packages own 0 n state files ≡ with_recipes packages own n state files
 recipes_start packages own n state files = rw (all_left n, at_start own) refl
 
 -- a recipe more

@@ -1,29 +1,28 @@
 -- The table of a closure has each variant that a recipe defines, where it offers to build the name.
-use Rattle.std.proofs.Common.{◌≡◌, refl, sym, ap, subst, ◌∙◌, Bool, true, false, cond, ℕ, ◌+◌, List, [], ◌∷◌, ◌++◌, map, filter, flat_map, Option, Some, None, Contains, length, inl, inr, ⊎_elim, arith}
+use Rattle.std.proofs.Common.{◌≡◌, refl, sym, ap, subst, ◌∙◌, Bool, true, false, cond, ℕ, ◌+◌, List, [], ◌∷◌, ◌++◌, map, Some, Contains, length, inl, ⊎_elim, arith}
 use Rattle.std.specs.List.{list_all, list_any}
-use Rattle.std.proofs.lemmas.Bool.{cases_Bool, false≢true}
+use Rattle.std.proofs.lemmas.Bool.{false≢true}
 use Rattle.std.proofs.lemmas.Option.{none-some}
 use Rattle.std.proofs.lemmas.List.Elements.{Contains-append_left}
 use Rattle.std.specs.Ordering.{eq_by_cmp}
 use Rattle.clause_store.specs.declared.Lit.{Lit}
-use Rattle.variant_values.specs.Texts.{byte_cmp, with_texts}
+use Rattle.variant_values.specs.Texts.{byte_cmp}
 use Rattle.keyed_lists.specs.Keyed.{find_key}
-use Rattle.reachability.proofs.CountLaws.{image_of}
 use Rattle.virtuals.proofs.VirtualLaws.{any_of, from_any}
 use Rattle.graph_core.specs.Graphs.{Text}
 use Rattle.graph_core.specs.declared.node.Node.{Node}
 use Rattle.graph_core.specs.declared.node.Origin.{Origin}
-use Rattle.graph_core.specs.declared.node.Origin.TheVariants.{Built, External, Installed}
+use Rattle.graph_core.specs.declared.node.Origin.TheVariants.{Built}
 use Rattle.condition_rules.specs.Words.{is_one_text}
 use Rattle.site_settings.specs.declared.settings.ExternalEntry.{ExternalEntry}
 use Rattle.reuse_db.specs.declared.record.Record.{Record}
 use Rattle.problem.specs.Problems.{Problem, variants_at, package_entry_of, externals_in}
-use Rattle.graph_rules.specs.Kept.{external_node, installed_node}
-use Rattle.graph_rules.proofs.Lists.{In, In-contains, contains-In, list_all-from}
+use Rattle.graph_rules.specs.Kept.{external_node}
+use Rattle.reuse_db.specs.Installed.{installed_node}
+use Rattle.graph_rules.proofs.Lists.{In-contains, contains-In, list_all-from}
 use Rattle.possible_closure.proofs.Lists.{in_texts}
-use Rattle.literal_table.specs.Choices.{Choices}
 use Rattle.literal_table.specs.Choices as choices
-use Rattle.literal_table.specs.Tables.{block_name, variant_of, block_of}
+use Rattle.literal_table.specs.Tables.{block_name, variant_of}
 use Rattle.literal_table.specs.declared.block.Block.{Block}
 use Rattle.literal_table.proofs.Spelling.{found-named}
 use Rattle.table_plan.specs.Gathering.{gathered, listed}

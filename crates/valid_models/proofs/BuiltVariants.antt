@@ -1,5 +1,5 @@
 -- The rule of variants, where the table has all variants of the names that it offers to build.
-use Rattle.std.proofs.Common.{◌≡◌, refl, sym, ap, subst, ◌∙◌, Bool, true, false, not, ◌||◌, ℕ, [], ◌∷◌, map, Option, Some, None, inl, inr}
+use Rattle.std.proofs.Common.{◌≡◌, refl, sym, subst, ◌∙◌, Bool, true, false, not, ◌||◌, ℕ, [], ◌∷◌, map, Option, Some, None, inl, inr}
 use Rattle.std.specs.List.{list_all, list_any}
 use Rattle.std.proofs.lemmas.Bool.{cases_Bool, or_left, or_right}
 use Rattle.clause_store.specs.Lits.{lit_true}
@@ -8,7 +8,6 @@ use Rattle.clause_formulas.specs.Rules.{Proposition, keeps_rule}
 use Rattle.clause_formulas.proofs.RuleLaws.{rule-said}
 use Rattle.graph_core.specs.Graphs.{Text, Content, node_of}
 use Rattle.graph_core.specs.declared.node.Node.{Node}
-use Rattle.graph_core.specs.declared.node.Origin.{Origin}
 use Rattle.condition_rules.specs.Words.{is_one_text, implies, if_written, is_some_and}
 use Rattle.recipe_data.specs.OfSpecGrammar.Condition.{Condition}
 use Rattle.problem.specs.Nodes.{is_built, builds}
@@ -16,14 +15,12 @@ use Rattle.problem.specs.Problems.{Problem, world_of, variants_at}
 use Rattle.graph_rules.specs.Built.{keeps_variant}
 use Rattle.graph_rules.specs.Valid.{keeps}
 use Rattle.graph_rules.specs.declared.rule.Rule.TheVariants as rules
-use Rattle.graph_rules.proofs.Lists.{In}
 use Rattle.literal_table.specs.Choices.{Choices, chosen, choice_values}
 use Rattle.literal_table.specs.Tables.{Table, block_of, table_names}
 use Rattle.literal_table.specs.Spells.{SpellsNode, SpellsAt}
 use Rattle.literal_table.specs.declared.block.Block.{Block}
 use Rattle.literal_table.proofs.Spelling.{named-so}
-use Rattle.graph_formulas.specs.Facts.{GraphWord, word_said, is_in}
-use Rattle.graph_formulas.specs.Words.{names_for}
+use Rattle.graph_formulas.specs.Facts.{word_said, is_in}
 use Rattle.graph_formulas.proofs.WordsSaid.{word-said}
 use Rattle.graph_formulas.proofs.Rules.{each-kept}
 use Rattle.graph_formulas.proofs.Kept.{by_node}

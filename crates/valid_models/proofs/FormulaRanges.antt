@@ -17,7 +17,8 @@ use Rattle.graph_encoding.specs.Formulas.{PathFormulas, PathsBelow, MetBelow}
 use Rattle.valid_models.specs.Joined.{Places, placed_or, condition_said, condition_by, row_said, WordsBelow}
 use Rattle.valid_models.proofs.Lists.{listed-below}
 
-module _ (problem : Problem) (t : Table) (n : ℕ) (words : WordsBelow n t) (m : ℕ) (path : PathFormulas) (le : n ≤ m) (paths : PathsBelow m path) where
+module _ (problem : Problem) (t : Table) (n : ℕ) (words : WordsBelow n t) (m : ℕ) (path : PathFormulas) (le : n ≤ m)
+    (paths : PathsBelow m path) where
   -- of a condition
   pub when-below : (name : Text) (when : Condition) → SaidBelow m (condition_said problem t path name when)
   when-below name when = rule-below m (word_said path t) (words m path le paths) (condition_rule (world_of problem) (names_for t) name when)
@@ -39,4 +40,5 @@ module _ (problem : Problem) (t : Table) (n : ℕ) (words : WordsBelow n t) (m :
     pub row-below : (row : (Text → Proposition Term) × List Text)
         → SaidBelow m (row_said problem t path (condition_by problem t place path met_by) row)
     row-below row = all_of-below m (map (λ name. term_formula path (condition_by problem t place path met_by) t (row.0 name)) row.1)
-        (listed-below m (λ name. term_formula path (condition_by problem t place path met_by) t (row.0 name)) (λ name. formula-below (row.0 name)) row.1)
+        (listed-below m (λ name. term_formula path (condition_by problem t place path met_by) t (row.0 name))
+        (λ name. formula-below (row.0 name)) row.1)

@@ -16,12 +16,14 @@ all-said v f xs = eval-all_of v (map f xs) ∙ all-said-cases xs
     all-said-cases (x ∷ xs) = rw (all-said-cases xs) refl
 
 -- what two tests say of a list
-pub all-alike : {X : Type 0} (p q test : X → Bool) → ((x : X) → test x ≡ true → p x ≡ q x) → (xs : List X) → list_all test xs ≡ true → list_all p xs ≡ list_all q xs
+pub all-alike : {X : Type 0} (p q test : X → Bool) → ((x : X) → test x ≡ true → p x ≡ q x) → (xs : List X) → list_all test xs ≡ true
+    → list_all p xs ≡ list_all q xs
 all-alike p q test same [] e = refl
 all-alike p q test same (x ∷ xs) e = let h = and_parts (test x) (list_all test xs) e in rw (same x h.0, all-alike p q test same xs h.1) refl
 
 -- what passes a test passes a weaker one
-pub all-from : {X : Type 0} (p q : X → Bool) → ((x : X) → p x ≡ true → q x ≡ true) → (xs : List X) → list_all p xs ≡ true → list_all q xs ≡ true
+pub all-from : {X : Type 0} (p q : X → Bool) → ((x : X) → p x ≡ true → q x ≡ true) → (xs : List X) → list_all p xs ≡ true
+    → list_all q xs ≡ true
 all-from p q h [] e = refl
 all-from p q h (x ∷ xs) e = let a = and_parts (p x) (list_all p xs) e in and_from (q x) _ (h x a.0) (all-from p q h xs a.1)
 

@@ -1,6 +1,6 @@
 -- The words of parts, specs and conditions: paths lead to the names that are asked for alone.
-use Rattle.std.proofs.Common.{◌≡◌, refl, ◌∙◌, sym, Bool, true, false, ℕ, List, [], ◌∷◌, map, Option, Some, None}
-use Rattle.std.specs.Prelude.{◌&&◌, ◌++◌, flat_map, if◌then◌else◌}
+use Rattle.std.proofs.Common.{◌≡◌, refl, ◌∙◌, sym, Bool, true, false, ℕ, List, [], ◌∷◌, Option, Some, None}
+use Rattle.std.specs.Prelude.{◌&&◌, flat_map, if◌then◌else◌}
 use Rattle.std.specs.List.{list_all, list_any}
 use Rattle.std.specs.Str.{bytes_eq}
 use Rattle.std.proofs.lemmas.List.Folds.{list_all-append}
@@ -9,20 +9,20 @@ use Rattle.version_order.specs.declared.item.Item.{Item}
 use Rattle.version_order.specs.Sets.{set_contains}
 use Rattle.spec_grammar.specs.declared.part.Part.{Part}
 use Rattle.spec_grammar.specs.declared.part.Spec.{Spec}
-use Rattle.clause_formulas.specs.Statements.{Statement, eval}
+use Rattle.clause_formulas.specs.Statements.{eval}
 use Rattle.clause_formulas.specs.Rules.{Proposition, fact, nowhere}
 use Rattle.graph_core.specs.Graphs.{Text}
 use Rattle.virtuals.specs.Virtuals.{is_virtual}
 use Rattle.condition_rules.specs.Words.{if_written, is_some_and}
-use Rattle.condition_rules.specs.Worlds.{World, recipe_of, rows}
+use Rattle.condition_rules.specs.Worlds.{World}
 use Rattle.condition_rules.specs.Meets.{meets_platform, lists_overlap, is_compiler, is_target}
 use Rattle.recipe_data.specs.OfSpecGrammar.Condition.{Condition}
 use Rattle.recipe_data.specs.declared.recipe.ProvideRow.{ProvideRow}
 use Rattle.literal_table.specs.Tables.{Table}
 use Rattle.graph_formulas.specs.Facts.{GraphWord, word_said, node_has, has_version, has_variant, has_value, has_compiler, has_os, has_target, has_path, provides_as}
-use Rattle.graph_formulas.specs.Lists.{◌and◌, settled_test, asked_unless, where_written, one_keeps, each_keeps, some}
+use Rattle.graph_formulas.specs.Lists.{◌and◌, one_keeps, some}
 use Rattle.problem.specs.Closure.{is_filled}
-use Rattle.graph_formulas.specs.Parts.{there_rule, values_rule, asks_fact, rest_rule, meets_rule, tops_rule, row_rule, provides_rule, asked_rule, suits_rule, below_rule, holds_rule, condition_rule}
+use Rattle.graph_formulas.specs.Parts.{there_rule, values_rule, asks_fact, rest_rule, meets_rule, tops_rule, row_rule, rows_naming, provides_rule, asked_rule, suits_rule, below_rule, holds_rule, condition_rule}
 use Rattle.graph_encoding.specs.Formulas.{PathFormulas}
 use Rattle.valid_models.specs.Targets.{asked_names, spec_names, condition_names}
 use Rattle.valid_models.proofs.Words.{AllWords, given-all, unless-all, written-all, each-all, some-all, each-if, some-if}
@@ -91,7 +91,7 @@ module _ (v : ℕ → Bool) (t : Table) (path other : PathFormulas) (told : Text
     unfolding provides_rule
     provides-alike name virtual wanted =
         some-all Alike (row_rule world name virtual wanted) (row-alike name virtual wanted)
-        (rows (λ recipe. recipe.provides) (recipe_of world name))
+        (rows_naming world name virtual)
 
     module _ (packages : Text → List Text) where
       -- of the node that a name asks for

@@ -1,27 +1,26 @@
 -- The words of rules that speak of no path.
-use Rattle.std.proofs.Common.{◌≡◌, refl, Bool, true, false, ℕ, List, [], ◌∷◌, Option, Some, None}
+use Rattle.std.proofs.Common.{◌≡◌, refl, Bool, true, ℕ, List, None}
 use Rattle.std.specs.Prelude.{◌&&◌, slice_get, is_some}
 use Rattle.std.specs.Str.{bytes_eq}
-use Rattle.clause_formulas.specs.Statements.{Statement, eval}
-use Rattle.clause_formulas.specs.Rules.{Proposition, fact, isnt, if_so}
-use Rattle.graph_core.specs.Graphs.{Text}
+use Rattle.clause_formulas.specs.Statements.{eval}
+use Rattle.clause_formulas.specs.Rules.{fact, isnt, if_so}
+use Rattle.graph_core.specs.Graphs.{Text, no_kinds}
 use Rattle.graph_core.specs.declared.node.Node.{Node}
 use Rattle.graph_core.specs.declared.node.Kinds.{Kinds}
 use Rattle.graph_core.specs.declared.node.Origin.{Origin}
 use Rattle.graph_core.specs.declared.node.Origin.TheVariants.{Built, External, Installed}
 use Rattle.condition_rules.specs.Words.{is_one_text}
-use Rattle.site_settings.specs.declared.settings.CompilerEntry.{CompilerEntry}
 use Rattle.problem.specs.Problems.{Problem, world_of, package_entry_of, externals_in, record_at, recipe_at, is_buildable_in}
 use Rattle.problem.specs.Records.{kept_dependencies}
 use Rattle.reuse_db.specs.declared.record.Record.{Record}
-use Rattle.graph_rules.specs.Kept.{external_node, installed_node}
+use Rattle.graph_rules.specs.Kept.{external_node}
+use Rattle.reuse_db.specs.Installed.{installed_node}
 use Rattle.literal_table.specs.Tables.{Table}
 use Rattle.reuse_db.specs.declared.record.Dependency.{Dependency}
 use Rattle.graph_formulas.specs.Facts.{GraphWord, provides_as, node_has, has_origin, has_os, has_target, has_edge}
-use Rattle.graph_formulas.specs.Lists.{◌and◌, settled_test, where_written, one_keeps, each_keeps}
+use Rattle.graph_formulas.specs.Lists.{◌and◌, each_keeps}
 use Rattle.graph_formulas.specs.Built.{buildable_rule, version_rule, entry_rule, compiler_rule, machine_rule, provider_rule}
-use Rattle.graph_formulas.specs.Edges.{no_kinds}
-use Rattle.graph_formulas.specs.Kept.{joined_rule, installs, same_rule, kinds_rule, is_child_name, child_rule, recorded_rule, origin_rule, kept_rule}
+use Rattle.graph_formulas.specs.Kept.{joined_rule, same_rule, kinds_rule, is_child_name, child_rule, recorded_rule, origin_rule, kept_rule}
 use Rattle.problem.specs.Nodes.{same_origin}
 use Rattle.graph_encoding.specs.Formulas.{PathFormulas}
 use Rattle.valid_models.proofs.Words.{AllWords, given-all, written-all, named-all, each-all, some-all}

@@ -1,14 +1,13 @@
 -- The formula of each word is over the variables of the table and of paths.
-use Rattle.std.proofs.Common.{◌≡◌, refl, sym, subst, ◌∙◌, Bool, true, false, ℕ, ◌<◌, ◌≤◌, List, [], ◌∷◌, ◌++◌, map, filter, Option, Some, None, All}
-use Rattle.std.specs.Prelude.{if◌then◌else◌, flat_map}
+use Rattle.std.proofs.Common.{◌≡◌, refl, Bool, true, false, ℕ, ◌<◌, List, [], ◌∷◌, ◌++◌, map, Option, Some, None}
+use Rattle.std.specs.Prelude.{if◌then◌else◌}
 use Rattle.std.specs.Str.{bytes_eq}
 use Rattle.std.proofs.lemmas.List.Elements.{All-contains}
 use Rattle.std.specs.Cmp.Lexicographic.{nat_list_cmp_total}
 use Rattle.std.specs.Ordering.{eq_by_cmp}
 use Rattle.clause_store.specs.declared.Lit.{Lit}
 use Rattle.clause_store.specs.Lits.{var_of, negation, AllBelow}
-use Rattle.clause_store.proofs.Range.{AllBelow-le}
-use Rattle.clause_formulas.specs.Statements.{Statement, atom, never, any_statement, all_statements, SaidBelow}
+use Rattle.clause_formulas.specs.Statements.{atom, any_statement, all_statements, SaidBelow}
 use Rattle.clause_formulas.proofs.FewLaws.{one_among-below}
 use Rattle.clause_formulas.proofs.Words.{any_of-below, all_of-below}
 use Rattle.clause_formulas.proofs.DraftLaws.{SaidBelow-le}
@@ -16,7 +15,7 @@ use Rattle.variant_values.specs.Texts.{byte_cmp}
 use Rattle.variant_values.proofs.Texts.{ties_are_equal}
 use Rattle.keyed_lists.specs.Keyed.{find_key}
 use Rattle.keyed_lists.proofs.LookupLaws.{find_sound}
-use Rattle.graph_core.specs.Graphs.{Text, pair_cmp}
+use Rattle.graph_core.specs.Graphs.{Text}
 use Rattle.graph_core.specs.declared.node.Kinds.{Kinds}
 use Rattle.problem.specs.Nodes.{has_kind}
 use Rattle.graph_core.proofs.PairLaws.{pair_total, pair_exact}
@@ -29,8 +28,7 @@ use Rattle.graph_decoding.specs.Structure.{value_lits, kind_lits}
 use Rattle.graph_decoding.proofs.LocalLaws.{below-parts}
 use Rattle.literal_table.specs.Ranges.{AreBelow, IsBlockBelow, IsTableBelow}
 use Rattle.graph_formulas.specs.Facts as facts
-use Rattle.graph_formulas.specs.Facts.{GraphWord, Fact, Variants, just_parts, some_parts, variant_parts, fact_said, said_in, kind_parts, edge_said, word_said, node_has, provides_as, has_edge, has_path, has_virtual, has_virtuals}
-use Rattle.graph_encoding.specs.Formulas.{PathFormulas, PathsBelow}
+use Rattle.graph_formulas.specs.Facts.{Fact, Variants, just_parts, some_parts, variant_parts, fact_said, said_in, kind_parts, edge_said, node_has, provides_as, has_edge, has_path, has_virtual, has_virtuals}
 use Rattle.valid_models.specs.Joined.{WordsBelow}
 
 -- ---- choices

@@ -1,11 +1,10 @@
 -- What is asked of a table, from the laws of its parts.
-use Rattle.std.proofs.Common.{◌≡◌, refl, sym, ap, subst, ◌∙◌, Bool, true, ℕ, ◌+◌, ◌<◌, List, [], ◌∷◌, All, arith}
+use Rattle.std.proofs.Common.{◌≡◌, sym, ap, subst, ◌∙◌, Bool, true, ℕ, List, All}
 use Rattle.std.specs.List.{list_all}
-use Rattle.clause_store.specs.Lits.{var_of, AllBelow}
 use Rattle.clause_circuits.specs.Growth.{Agree}
 use Rattle.clause_formulas.specs.Statements.{any_statement, eval, SaidBelow}
 use Rattle.variant_values.specs.Texts.{IsInByteOrder}
-use Rattle.graph_core.specs.Graphs.{Text, Content, IsGraph}
+use Rattle.graph_core.specs.Graphs.{Content, IsGraph}
 use Rattle.problem.specs.Nodes.{IsWellFormed}
 use Rattle.problem.specs.Problems.{Problem}
 use Rattle.problem.specs.declared.demand.Demand.{Demand}

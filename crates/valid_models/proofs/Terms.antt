@@ -8,7 +8,7 @@ use Rattle.std.proofs.lemmas.Bool.{and_parts}
 use Rattle.spec_grammar.specs.declared.part.Spec.{Spec}
 use Rattle.clause_formulas.specs.Statements.{Statement, eval}
 use Rattle.clause_formulas.specs.Rules.{Proposition, fact, if_so}
-use Rattle.graph_core.specs.Graphs.{Text}
+use Rattle.graph_core.specs.Graphs.{Text, no_kinds}
 use Rattle.variant_values.specs.declared.kind.VariantKind.{VariantKind}
 use Rattle.variant_values.specs.declared.kind.VariantKind.TheVariants as kinds
 use Rattle.graph_core.specs.declared.node.Kinds.{Kinds}
@@ -28,7 +28,7 @@ use Rattle.graph_formulas.specs.Parts.{holds_rule, asked_rule, suits_rule, row_r
 use Rattle.graph_formulas.specs.Terms.{Term, known, term_said, known_rule, met_rule}
 use Rattle.graph_formulas.specs.Directives.{answer_rule, edge_to, edge_rule, suits_asked, constraint_rule, conflict_rule, choice_rule, requirement_rule}
 use Rattle.graph_rules.specs.Built.{names_virtual}
-use Rattle.graph_formulas.specs.Edges.{no_kinds, asked_child, asks_rule, may_ask, kind_rule, virtual_rule, extra_edge_rule, extra_edges_rule, use_rule, used_rule, of_provider}
+use Rattle.graph_formulas.specs.Edges.{asked_child, asks_rule, may_ask, kind_rule, virtual_rule, extra_edge_rule, extra_edges_rule, use_rule, used_rule, of_provider}
 use Rattle.graph_formulas.specs.Together.{no_other_rule, by_row_rule, together_rule}
 use Rattle.graph_formulas.specs.Variants.{count_rule, definitions, variant_rule, variants_rule, allows_rule}
 use Rattle.graph_formulas.specs.Demands.{directive_rule, required_rule}
@@ -77,7 +77,8 @@ module _ (problem : Problem) (v : ℕ → Bool) (t : Table) (path other : PathFo
         (λ child. answered asked child (is_virtual problem.recipes asked))) row.part.name),
   )
     where
-      answered : (asked child : Text) (b : Bool) → AllWords W (if b then fact (has_edge name child row.kinds) and fact (has_virtual name child asked)
+      answered : (asked child : Text) (b : Bool)
+          → AllWords W (if b then fact (has_edge name child row.kinds) and fact (has_virtual name child asked)
           else fact (has_edge name child row.kinds))
       answered asked child true = (refl, refl)
       answered asked child false = refl
@@ -140,9 +141,11 @@ module _ (problem : Problem) (v : ℕ → Bool) (t : Table) (path other : PathFo
       let b = and_parts _ _ (sym (list_all-append is_told_condition (map (λ row. row.when) (depends_at problem name)) _) ∙ a.1) in
       let c = and_parts _ _ (sym (list_all-append is_told_condition (map (λ row. row.when) (conflicts_at problem name)) _) ∙ b.1) in
       let s = and_parts _ _ (sym (list_all-append is_told_spec (map (λ row. row.spec) (conflicts_at problem name)) _) ∙ specs) in
-      let r = and_parts _ _ (sym (list_all-append (λ row. is_told_condition row.when) (requirements_at problem name) (required_at problem name))
+      let r = and_parts _ _
+      (sym (list_all-append (λ row. is_told_condition row.when) (requirements_at problem name) (required_at problem name))
       ∙ sym (list_all-map is_told_condition (λ row. row.when) (choices_at problem name)) ∙ c.1) in
-      let q = and_parts _ _ (sym (list_all-append (λ row. list_all is_told_spec row.specs) (requirements_at problem name) (required_at problem name))
+      let q = and_parts _ _
+      (sym (list_all-append (λ row. list_all is_told_spec row.specs) (requirements_at problem name) (required_at problem name))
       ∙ sym (all-flat is_told_spec (λ row. row.specs) (choices_at problem name)) ∙ s.1) in
       record {
         variants = sym (list_all-map is_told_condition (λ row. row.when) (variants_at problem name)) ∙ a.0;
@@ -233,7 +236,8 @@ module _ (problem : Problem) (v : ℕ → Bool) (t : Table) (path other : PathFo
           (depends_at problem name) rows.depends),
     )
       where
-        asked-all : (asked : Text) (b : Bool) → AllWords W (if b then fact (provides_as asked child) else settled_test (bytes_eq asked child))
+        asked-all : (asked : Text) (b : Bool) → AllWords W
+            (if b then fact (provides_as asked child) else settled_test (bytes_eq asked child))
         asked-all asked true = refl
         asked-all asked false = given-all W (bytes_eq asked child)
 

@@ -40,14 +40,17 @@ module _ (problem : Problem) (t : Table) (told : Text → Bool) (all : list_all 
   pub told-roots : list_all (λ spec. list_all told (spec_names (world_of problem) (names_for t) spec)) problem.roots ≡ true
   told-roots = sym (all-flat told (spec_names (world_of problem) (names_for t)) problem.roots) ∙ parts.1
 
-  told-at : (name : Text) → is_told_name problem t told name ≡ true → list_all (is_told_pair problem t told) (map (pair_with name) (conditions_at problem name)) ≡ true
+  told-at : (name : Text) → is_told_name problem t told name ≡ true
+      → list_all (is_told_pair problem t told) (map (pair_with name) (conditions_at problem name)) ≡ true
   told-at name e =
       list_all-map (is_told_pair problem t told) (pair_with name) (conditions_at problem name)
       ∙ sym (all-flat told (condition_names (world_of problem) (names_for t)) (conditions_at problem name))
-      ∙ (and_parts _ _ (sym (list_all-append told (flat_map (condition_names (world_of problem) (names_for t)) (conditions_at problem name)) _) ∙ e)).0
+      ∙ (and_parts _ _
+      (sym (list_all-append told (flat_map (condition_names (world_of problem) (names_for t)) (conditions_at problem name)) _) ∙ e)).0
 
   pub told-conditions : list_all (is_told_pair problem t told) (conditions_of problem t) ≡ true
   told-conditions =
       all-flat (is_told_pair problem t told) (λ name. map (pair_with name) (conditions_at problem name)) (table_names t)
-      ∙ all-from (is_told_name problem t told) (λ name. list_all (is_told_pair problem t told) (map (pair_with name) (conditions_at problem name))) told-at
+      ∙ all-from (is_told_name problem t told) (λ name. list_all (is_told_pair problem t told)
+      (map (pair_with name) (conditions_at problem name))) told-at
       (table_names t) told-names

@@ -1,15 +1,15 @@
 -- What is so of all words of a rule.
 use Prim.Native.Nat.{zero, suc}
-use Rattle.std.proofs.Common.{◌≡◌, refl, sym, ap, ◌∙◌, Bool, true, false, not, ◌||◌, ◌&&◌, ℕ, ◌/◌, List, [], ◌∷◌, ◌++◌, map, take, drop, length, nat_lt, Option, Some, None}
+use Rattle.std.proofs.Common.{◌≡◌, refl, sym, ap, ◌∙◌, Bool, true, false, not, ◌&&◌, ℕ, ◌/◌, List, [], ◌∷◌, ◌++◌, take, drop, length, nat_lt, Option, Some, None}
 use Rattle.std.specs.Prelude.{if◌then◌else◌}
 use Rattle.std.specs.List.{list_all}
 use Rattle.std.proofs.lemmas.Bool.{and_parts}
 use Rattle.std.proofs.lemmas.List.{take-append-drop}
 use Rattle.std.proofs.lemmas.List.Folds.{list_all-append}
 use Rattle.clause_formulas.specs.Statements.{Statement, eval}
-use Rattle.clause_formulas.specs.Rules.{Proposition, fact, nowhere, isnt, both_of, either_of, if_so, keeps_rule, in_words, any_rule, every_rule}
+use Rattle.clause_formulas.specs.Rules.{Proposition, fact, nowhere, isnt, both_of, either_of, if_so, keeps_rule, in_words, every_rule}
 use Rattle.clause_formulas.proofs.RuleLaws.{rule-said}
-use Rattle.graph_formulas.specs.Lists.{settled_test, asked_unless, where_written, one_keeps, each_keeps, some, first_rules, apart_rules, half_count, halves_rule, few_rules, just_one, last_in_turn, last_of_halves, last_halved, last_one}
+use Rattle.graph_formulas.specs.Lists.{settled_test, asked_unless, where_written, one_keeps, each_keeps, some, first_rules, apart_rules, half_length, halves_rule, few_rules, just_one, last_in_turn, last_of_halves, last_halved, last_one}
 
 abbrev pub AllWords : {W : Type 0} → (W → Type 0) → Proposition W → Type 0
 AllWords P (fact w) = P w
@@ -98,16 +98,16 @@ module _ {W : Type 0} (P : W → Type 0) where
       unfolding few_rules
       few-if zero xs e = apart-if xs e
       few-if (suc times) xs e =
-          let parts : (list_all test (take (half_count xs) xs) && list_all test (drop (half_count xs) xs)) ≡ true =
-          sym (list_all-append test (take (half_count xs) xs) (drop (half_count xs) xs))
-          ∙ ap (list_all test) (take-append-drop (half_count xs) xs) ∙ e in
-          let q = and_parts (list_all test (take (half_count xs) xs)) (list_all test (drop (half_count xs) xs)) parts in
-          elim (nat_lt 8 (length xs)) as (λ b. EachWords P (if b then halves_rule rule (take (half_count xs) xs) (drop (half_count xs) xs)
-          ∷ (few_rules times rule (take (half_count xs) xs) ++ few_rules times rule (drop (half_count xs) xs)) else apart_rules rule xs)) [
+          let parts : (list_all test (take (half_length xs) xs) && list_all test (drop (half_length xs) xs)) ≡ true =
+          sym (list_all-append test (take (half_length xs) xs) (drop (half_length xs) xs))
+          ∙ ap (list_all test) (take-append-drop (half_length xs) xs) ∙ e in
+          let q = and_parts (list_all test (take (half_length xs) xs)) (list_all test (drop (half_length xs) xs)) parts in
+          elim (nat_lt 8 (length xs)) as (λ b. EachWords P (if b then halves_rule rule (take (half_length xs) xs) (drop (half_length xs) xs)
+          ∷ (few_rules times rule (take (half_length xs) xs) ++ few_rules times rule (drop (half_length xs) xs)) else apart_rules rule xs)) [
             | true ↦ (
-              (some-if (take (half_count xs) xs) q.0, (some-if (drop (half_count xs) xs) q.1, tt)),
-              each-append P (few_rules times rule (take (half_count xs) xs)) (few_rules times rule (drop (half_count xs) xs))
-                  (few-if times (take (half_count xs) xs) q.0) (few-if times (drop (half_count xs) xs) q.1),
+              (some-if (take (half_length xs) xs) q.0, (some-if (drop (half_length xs) xs) q.1, tt)),
+              each-append P (few_rules times rule (take (half_length xs) xs)) (few_rules times rule (drop (half_length xs) xs))
+                  (few-if times (take (half_length xs) xs) q.0) (few-if times (drop (half_length xs) xs) q.1),
             )
             | false ↦ apart-if xs e
           ]
@@ -127,10 +127,10 @@ module _ {W : Type 0} (P : W → Type 0) where
     unfolding last_halved
     halved-if zero xs e = in-turn-if xs e
     halved-if (suc times) xs e =
-        let front = take (half_count xs) xs in
-        let back = drop (half_count xs) xs in
+        let front = take (half_length xs) xs in
+        let back = drop (half_length xs) xs in
         let parts : (list_all test front && list_all test back) ≡ true =
-        sym (list_all-append test front back) ∙ ap (list_all test) (take-append-drop (half_count xs) xs) ∙ e in
+        sym (list_all-append test front back) ∙ ap (list_all test) (take-append-drop (half_length xs) xs) ∙ e in
         let q = and_parts (list_all test front) (list_all test back) parts in
         elim (nat_lt 8 (length xs)) as (λ b. AllWords P
         (if b then last_of_halves passes back (last_halved times passes rule front) (last_halved times passes rule back)

@@ -7,7 +7,6 @@ use Rattle.graph_core.specs.Graphs.{Text, Content}
 use Rattle.condition_rules.specs.Holds.{all_hold}
 use Rattle.recipe_data.specs.OfSpecGrammar.Condition.{Condition}
 use Rattle.problem.specs.Problems.{Problem, world_of, variants_at}
-use Rattle.problem.specs.declared.demand.Demand.{Demand}
 use Rattle.literal_table.specs.Tables.{Table, IsTable, block_of, table_names, children_of}
 use Rattle.literal_table.specs.Choices.{choice_values}
 use Rattle.literal_table.specs.declared.block.Block.{Block}

@@ -1,6 +1,6 @@
 -- The table of a problem, with its decoding.
-use Rattle.std.specs.Prelude.{◌≡◌, ℕ, Bool, true, List}
-use Rattle.graph_core.specs.Graphs.{Text, Content}
+use Rattle.std.specs.Prelude.{◌≡◌, ℕ, true, List}
+use Rattle.graph_core.specs.Graphs.{Text}
 use Rattle.problem.specs.Problems.{Problem}
 use Rattle.problem.specs.Closure.{IsClosure}
 use Rattle.literal_table.specs.Tables.{Table}

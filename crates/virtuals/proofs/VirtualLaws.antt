@@ -36,7 +36,8 @@ module _ {X : Type 0} (p : X → Bool) where
   from_any [] e = absurd (false≢true e)
   from_any (y ∷ ys) e = found_by_test (p y) refl e (from_any ys)
     where
-      found_by_test : (b : Bool) → p y ≡ b → (b || list_any p ys) ≡ true → (list_any p ys ≡ true → (x : X) × Contains ys x × (p x ≡ true)) → (x : X)
+      found_by_test : (b : Bool) → p y ≡ b → (b || list_any p ys) ≡ true
+          → (list_any p ys ≡ true → (x : X) × Contains ys x × (p x ≡ true)) → (x : X)
           × Contains (y ∷ ys) x × (p x ≡ true)
       found_by_test true is e rest = (y, has_first y ys, is)
       found_by_test false is e rest = let found = rest e in (found.0, has_later y ys found.0 found.1, found.2)

@@ -13,7 +13,7 @@ use Rattle.problem.specs.Problems.{Problem, world_of}
 use Rattle.virtuals.specs.Virtuals.{is_virtual}
 use Rattle.graph_formulas.specs.Facts.{GraphWord, word_said, provides_as, has_edge, has_virtual}
 use Rattle.graph_formulas.specs.Lists.{settled_test, one_keeps, some}
-use Rattle.graph_formulas.specs.Parts.{there_rule, asked_rule, suits_rule, provides_rule, rest_rule, meets_rule}
+use Rattle.graph_formulas.specs.Parts.{asked_rule, suits_rule, provides_rule, rest_rule, meets_rule}
 use Rattle.graph_formulas.specs.Words.{rule_said}
 use Rattle.graph_formulas.specs.Directives.{answer_rule, edge_to, suits_asked}
 use Rattle.graph_formulas.specs.Edges.{asked_child}
@@ -66,8 +66,10 @@ module _ (path : Text → Text → Statement) (table : Table) where
       (answered asked (is_virtual problem.recipes asked))) row.part.name
     where
       answered : (asked : Text) (b : Bool) (child : Text)
-          → in_words f (if b then both_of (fact (has_edge name child row.kinds)) (fact (has_virtual name child asked)) else fact (has_edge name child row.kinds))
-          ≡ in_words g (if b then both_of (fact (has_edge name child row.kinds)) (fact (has_virtual name child asked)) else fact (has_edge name child row.kinds))
+          → in_words f (if b then both_of (fact (has_edge name child row.kinds)) (fact (has_virtual name child asked)) else fact
+          (has_edge name child row.kinds))
+          ≡ in_words g (if b then both_of (fact (has_edge name child row.kinds)) (fact (has_virtual name child asked)) else fact
+          (has_edge name child row.kinds))
       answered asked true child = refl
       answered asked false child = refl
 
@@ -83,7 +85,8 @@ module _ (path : Text → Text → Statement) (table : Table) where
   asks_child-agree problem child row =
       named-agree (asked_child (world_of problem) child) (λ asked. if-virtual asked (is_virtual problem.recipes asked)) row.part.name
     where
-      if-virtual : (asked : Text) (b : Bool) → in_words f (if b then fact (provides_as asked child) else settled_test (bytes_eq asked child))
+      if-virtual : (asked : Text) (b : Bool) → in_words f
+          (if b then fact (provides_as asked child) else settled_test (bytes_eq asked child))
           ≡ in_words g (if b then fact (provides_as asked child) else settled_test (bytes_eq asked child))
       if-virtual asked true = refl
       if-virtual asked false = given-agree f g (bytes_eq asked child)

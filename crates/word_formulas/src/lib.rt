@@ -33,7 +33,7 @@ pub use facts::{
     compiler_passes, given, has_variant, is_there, origin_passes, os_passes, prefix_passes,
     target_passes, value_passes, version_passes,
 };
-pub use loops::{each, some};
+pub use loops::{each, each_where, some, some_where};
 pub use met::MetConditions;
 pub use node_rules::{
     buildable_formula, machine_formula, version_formula, where_built, where_there,

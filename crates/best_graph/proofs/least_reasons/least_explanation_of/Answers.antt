@@ -31,7 +31,8 @@ graphs_of-requires c =
     let own = models-structured p c.requires.decodes c.part_laws.ensures structured c.in-Minimal.demands c.in-Minimal.demands ms
     is.each_needed in
     let told = subst (λ (t : Table). All (λ (m : List Bool). IsStructured (values_in m) t) ms) (sym c.requires.ruled.is_table) own in
-    subst (λ (ks : List (List Bool)). All (λ (m : List Bool). IsStructured (values_in m) c.args.rules.now.table) ks) (sym c.as_slice.ensures)
+    subst (λ (ks : List (List Bool)). All (λ (m : List Bool). IsStructured (values_in m) c.args.rules.now.table) ks)
+    (sym c.as_slice.ensures)
     told
 
 pub returns-in-Minimal-clause-means : goal.returns-in-Minimal-clause-means
@@ -60,5 +61,7 @@ returns-clause-rests c =
     let s = c.args.rules.now.clauses in
     let found : IsSpentFor s c.args._budget c.in-Spent.demands c.in-Spent.more c.in-Spent.log =
     subst (IsLeast s c.args._budget) c.in-Spent.is c.requires.found in
-    let is = subst (λ (t : Clauses). IsSpentFor t c.args._budget c.in-Spent.demands c.in-Spent.more c.in-Spent.log) c.requires.ruled.clauses found in
-    least-spent p c.requires.decodes c.part_laws.ensures c.demand_laws.ensures c.args._budget c.in-Spent.demands c.in-Spent.more c.in-Spent.log is
+    let is = subst (λ (t : Clauses). IsSpentFor t c.args._budget c.in-Spent.demands c.in-Spent.more c.in-Spent.log)
+    c.requires.ruled.clauses found in
+    least-spent p c.requires.decodes c.part_laws.ensures c.demand_laws.ensures c.args._budget c.in-Spent.demands c.in-Spent.more
+    c.in-Spent.log is

@@ -30,4 +30,5 @@ pub returns : goal.returns
 returns g c =
     let i = c.loop-rest.invariant in
     subst (λ t. IsFed c.args.checker.now c.loop-rest.checker t)
-    (nothing-left i.0 c.loop-rest.rest.now c.args.text.now (eqb-true (length c.loop-rest.rest.now) 0 (sym c.is_empty.ensures ∙ c.loop-rest-test.false)) i.1) i.2
+    (nothing-left i.0 c.loop-rest.rest.now c.args.text.now
+    (eqb-true (length c.loop-rest.rest.now) 0 (sym c.is_empty.ensures ∙ c.loop-rest-test.false)) i.1) i.2

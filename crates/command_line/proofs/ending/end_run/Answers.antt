@@ -1,3 +1,5 @@
+use Rattle.std.proofs.Common.{inr, sym}
+use Rattle.outside_desk.proofs.Tellings.{told_still}
 use Rattle.command_line.proofs.ending.end_run.Goals as goal
 
 pub returns : goal.returns
@@ -5,7 +7,9 @@ returns g c = record {
   status = c.run-status.result;
   ends = c.ended.ensures;
   answered = record {
-    no_command = c.run-status.ensures.words;
+    no_command = λ none.
+        let all = c.run-status.ensures.words none in
+        (sym (told_still _ _ (inr all.0)), all.1, all.2, all.3, all.4, all.5);
     usage = c.run-status.ensures.usage;
     done = c.run-status.ensures.done;
     shown = c.run-status.ensures.shown;

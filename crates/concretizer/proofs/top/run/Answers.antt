@@ -35,16 +35,19 @@ returns-in-Ok-Solved-clause-held g c = keeps_meant c.task_laws.ensures.any (word
 
 pub returns-in-Ok-Solved-clause-logged : goal.returns-in-Ok-Solved-clause-logged
 returns-in-Ok-Solved-clause-logged g c = record {
-  answered = done evidence (words_of c.args.words.now) _ (_, _) (_, _) refl _ c.in-Ok-Solved.field-0 c.in-Ok-Solved.field-0-is c.in-Ok-Solved.ensures.outcome;
+  answered = done evidence (words_of c.args.words.now) _ (_, _) (_, _) refl _ c.in-Ok-Solved.field-0 c.in-Ok-Solved.field-0-is
+      c.in-Ok-Solved.ensures.outcome;
   held = c.in-Ok-Solved.ensures.held;
   complete = settled _ (words_of c.args.words.now) (_, _) (_, _) (_, _) (_, _) statuses.Done tt;
-  due = written c.task_laws.ensures.one _ (words_of c.args.words.now) c.in-Ok-Solved.field-0 _ (_, _) (_, _) (_, _) (_, _) (_, _) statuses.Done c.in-Ok-Solved.ensures.outcome;
+  due = written c.task_laws.ensures.one _ (words_of c.args.words.now) c.in-Ok-Solved.field-0 _ (_, _) (_, _) (_, _) (_, _) (_, _)
+      statuses.Done c.in-Ok-Solved.ensures.outcome;
 }
 
 pub returns-in-Ok-Solved-clause-due : goal.returns-in-Ok-Solved-clause-due
 returns-in-Ok-Solved-clause-due g c =
     refusals_due c.task_laws.ensures.none _ (words_of c.args.words.now) (_, _) (_, _) (_, _) (_, _) statuses.Done
-    (written c.task_laws.ensures.one _ (words_of c.args.words.now) c.in-Ok-Solved.field-0 _ (_, _) (_, _) (_, _) (_, _) (_, _) statuses.Done c.in-Ok-Solved.ensures.outcome)
+    (written c.task_laws.ensures.one _ (words_of c.args.words.now) c.in-Ok-Solved.field-0 _ (_, _) (_, _) (_, _) (_, _) (_, _) statuses.Done
+    c.in-Ok-Solved.ensures.outcome)
 
 -- ---- Unsatisfiable
 
@@ -54,7 +57,8 @@ returns-in-Ok-Unsolved-clause-words g c = λ none. absurd ((c.in-Ok-Unsolved.ens
 pub returns-in-Ok-Unsolved-clause-unsatisfiable : goal.returns-in-Ok-Unsolved-clause-unsatisfiable
 returns-in-Ok-Unsolved-clause-unsatisfiable g c = λ is.
     unsatisfiable meaning (words_of c.args.words.now) _ (_, _) (_, _) refl _ c.in-Ok-Unsolved.field-0 c.in-Ok-Unsolved.field-0-is
-    (attempts_meant c.task_laws.ensures.any (words_of c.args.words.now) _ _ _ _ (Ok c.in-Ok-Unsolved.field-0) c.in-Ok-Unsolved.ensures.outcome)
+    (attempts_meant c.task_laws.ensures.any (words_of c.args.words.now) _ _ _ _ (Ok c.in-Ok-Unsolved.field-0)
+    c.in-Ok-Unsolved.ensures.outcome)
 
 pub returns-in-Ok-Unsolved-clause-others : goal.returns-in-Ok-Unsolved-clause-others
 returns-in-Ok-Unsolved-clause-others g c = others (words_of c.args.words.now) _ _ c.in-Ok-Unsolved.ensures.held
@@ -64,16 +68,19 @@ returns-in-Ok-Unsolved-clause-held g c = keeps_meant c.task_laws.ensures.any (wo
 
 pub returns-in-Ok-Unsolved-clause-logged : goal.returns-in-Ok-Unsolved-clause-logged
 returns-in-Ok-Unsolved-clause-logged g c = record {
-  answered = unsatisfiable evidence (words_of c.args.words.now) _ (_, _) (_, _) refl _ c.in-Ok-Unsolved.field-0 c.in-Ok-Unsolved.field-0-is c.in-Ok-Unsolved.ensures.outcome;
+  answered = unsatisfiable evidence (words_of c.args.words.now) _ (_, _) (_, _) refl _ c.in-Ok-Unsolved.field-0 c.in-Ok-Unsolved.field-0-is
+      c.in-Ok-Unsolved.ensures.outcome;
   held = c.in-Ok-Unsolved.ensures.held;
   complete = settled _ (words_of c.args.words.now) (_, _) (_, _) (_, _) (_, _) statuses.Unsatisfiable tt;
-  due = written c.task_laws.ensures.one _ (words_of c.args.words.now) c.in-Ok-Unsolved.field-0 _ (_, _) (_, _) (_, _) (_, _) (_, _) statuses.Unsatisfiable c.in-Ok-Unsolved.ensures.outcome;
+  due = written c.task_laws.ensures.one _ (words_of c.args.words.now) c.in-Ok-Unsolved.field-0 _ (_, _) (_, _) (_, _) (_, _) (_, _)
+      statuses.Unsatisfiable c.in-Ok-Unsolved.ensures.outcome;
 }
 
 pub returns-in-Ok-Unsolved-clause-due : goal.returns-in-Ok-Unsolved-clause-due
 returns-in-Ok-Unsolved-clause-due g c =
     refusals_due c.task_laws.ensures.none _ (words_of c.args.words.now) (_, _) (_, _) (_, _) (_, _) statuses.Unsatisfiable
-    (written c.task_laws.ensures.one _ (words_of c.args.words.now) c.in-Ok-Unsolved.field-0 _ (_, _) (_, _) (_, _) (_, _) (_, _) statuses.Unsatisfiable c.in-Ok-Unsolved.ensures.outcome)
+    (written c.task_laws.ensures.one _ (words_of c.args.words.now) c.in-Ok-Unsolved.field-0 _ (_, _) (_, _) (_, _) (_, _) (_, _)
+    statuses.Unsatisfiable c.in-Ok-Unsolved.ensures.outcome)
 
 -- ---- Undecided
 
@@ -83,7 +90,8 @@ returns-in-Ok-Undecided-clause-words g c = λ none. absurd ((c.in-Ok-Undecided.e
 pub returns-in-Ok-Undecided-clause-undecided : goal.returns-in-Ok-Undecided-clause-undecided
 returns-in-Ok-Undecided-clause-undecided g c = λ is.
     undecided meaning (words_of c.args.words.now) _ (_, _) (_, _) refl _ c.in-Ok-Undecided.field-0 c.in-Ok-Undecided.field-0-is
-    (attempts_meant c.task_laws.ensures.any (words_of c.args.words.now) _ _ _ _ (Ok c.in-Ok-Undecided.field-0) c.in-Ok-Undecided.ensures.outcome)
+    (attempts_meant c.task_laws.ensures.any (words_of c.args.words.now) _ _ _ _ (Ok c.in-Ok-Undecided.field-0)
+    c.in-Ok-Undecided.ensures.outcome)
 
 pub returns-in-Ok-Undecided-clause-others : goal.returns-in-Ok-Undecided-clause-others
 returns-in-Ok-Undecided-clause-others g c = others (words_of c.args.words.now) _ _ c.in-Ok-Undecided.ensures.held
@@ -93,16 +101,19 @@ returns-in-Ok-Undecided-clause-held g c = keeps_meant c.task_laws.ensures.any (w
 
 pub returns-in-Ok-Undecided-clause-logged : goal.returns-in-Ok-Undecided-clause-logged
 returns-in-Ok-Undecided-clause-logged g c = record {
-  answered = undecided evidence (words_of c.args.words.now) _ (_, _) (_, _) refl _ c.in-Ok-Undecided.field-0 c.in-Ok-Undecided.field-0-is c.in-Ok-Undecided.ensures.outcome;
+  answered = undecided evidence (words_of c.args.words.now) _ (_, _) (_, _) refl _ c.in-Ok-Undecided.field-0 c.in-Ok-Undecided.field-0-is
+      c.in-Ok-Undecided.ensures.outcome;
   held = c.in-Ok-Undecided.ensures.held;
   complete = settled _ (words_of c.args.words.now) (_, _) (_, _) (_, _) (_, _) statuses.Undecided tt;
-  due = written c.task_laws.ensures.one _ (words_of c.args.words.now) c.in-Ok-Undecided.field-0 _ (_, _) (_, _) (_, _) (_, _) (_, _) statuses.Undecided c.in-Ok-Undecided.ensures.outcome;
+  due = written c.task_laws.ensures.one _ (words_of c.args.words.now) c.in-Ok-Undecided.field-0 _ (_, _) (_, _) (_, _) (_, _) (_, _)
+      statuses.Undecided c.in-Ok-Undecided.ensures.outcome;
 }
 
 pub returns-in-Ok-Undecided-clause-due : goal.returns-in-Ok-Undecided-clause-due
 returns-in-Ok-Undecided-clause-due g c =
     refusals_due c.task_laws.ensures.none _ (words_of c.args.words.now) (_, _) (_, _) (_, _) (_, _) statuses.Undecided
-    (written c.task_laws.ensures.one _ (words_of c.args.words.now) c.in-Ok-Undecided.field-0 _ (_, _) (_, _) (_, _) (_, _) (_, _) statuses.Undecided c.in-Ok-Undecided.ensures.outcome)
+    (written c.task_laws.ensures.one _ (words_of c.args.words.now) c.in-Ok-Undecided.field-0 _ (_, _) (_, _) (_, _) (_, _) (_, _)
+    statuses.Undecided c.in-Ok-Undecided.ensures.outcome)
 
 -- ---- Stale
 
@@ -122,16 +133,19 @@ returns-in-Ok-Stale-clause-held g c = keeps_meant c.task_laws.ensures.any (words
 
 pub returns-in-Ok-Stale-clause-logged : goal.returns-in-Ok-Stale-clause-logged
 returns-in-Ok-Stale-clause-logged g c = record {
-  answered = stale evidence (words_of c.args.words.now) _ (_, _) (_, _) refl _ c.in-Ok-Stale.field-0 c.in-Ok-Stale.field-0-is c.in-Ok-Stale.ensures.outcome;
+  answered = stale evidence (words_of c.args.words.now) _ (_, _) (_, _) refl _ c.in-Ok-Stale.field-0 c.in-Ok-Stale.field-0-is
+      c.in-Ok-Stale.ensures.outcome;
   held = c.in-Ok-Stale.ensures.held;
   complete = settled _ (words_of c.args.words.now) (_, _) (_, _) (_, _) (_, _) statuses.Stale tt;
-  due = written c.task_laws.ensures.one _ (words_of c.args.words.now) c.in-Ok-Stale.field-0 _ (_, _) (_, _) (_, _) (_, _) (_, _) statuses.Stale c.in-Ok-Stale.ensures.outcome;
+  due = written c.task_laws.ensures.one _ (words_of c.args.words.now) c.in-Ok-Stale.field-0 _ (_, _) (_, _) (_, _) (_, _) (_, _)
+      statuses.Stale c.in-Ok-Stale.ensures.outcome;
 }
 
 pub returns-in-Ok-Stale-clause-due : goal.returns-in-Ok-Stale-clause-due
 returns-in-Ok-Stale-clause-due g c =
     refusals_due c.task_laws.ensures.none _ (words_of c.args.words.now) (_, _) (_, _) (_, _) (_, _) statuses.Stale
-    (written c.task_laws.ensures.one _ (words_of c.args.words.now) c.in-Ok-Stale.field-0 _ (_, _) (_, _) (_, _) (_, _) (_, _) statuses.Stale c.in-Ok-Stale.ensures.outcome)
+    (written c.task_laws.ensures.one _ (words_of c.args.words.now) c.in-Ok-Stale.field-0 _ (_, _) (_, _) (_, _) (_, _) (_, _) statuses.Stale
+    c.in-Ok-Stale.ensures.outcome)
 
 pub returns-in-Ok-Stale-clause-outdone : goal.returns-in-Ok-Stale-clause-outdone
 returns-in-Ok-Stale-clause-outdone g c = λ is.
@@ -174,7 +188,9 @@ returns-in-Err-clause-outdone g c = λ is.
 
 pub returns-in-Err-clause-refused : goal.returns-in-Err-clause-refused
 returns-in-Err-clause-refused g c = λ refuses.
-    refused meaning _ (words_of c.args.words.now) c.in-Err.stop _ (_, _) (_, _) (_, _) _ (attempts_meant c.task_laws.ensures.any (words_of c.args.words.now) _ _ _ _ (Err c.in-Err.stop) c.in-Err.ensures.outcome) c.report.ensures.reports refuses
+    refused meaning _ (words_of c.args.words.now) c.in-Err.stop _ (_, _) (_, _) (_, _) _
+    (attempts_meant c.task_laws.ensures.any (words_of c.args.words.now) _ _ _ _ (Err c.in-Err.stop) c.in-Err.ensures.outcome)
+    c.report.ensures.reports refuses
 
 pub returns-in-Err-clause-read_fault : goal.returns-in-Err-clause-read_fault
 returns-in-Err-clause-read_fault g c =
@@ -184,13 +200,15 @@ returns-in-Err-clause-read_fault g c =
 pub returns-in-Err-clause-write_fault : goal.returns-in-Err-clause-write_fault
 returns-in-Err-clause-write_fault g c =
     write_fault meaning (words_of c.args.words.now) c.in-Err.stop (_, _) (_, _) (_, _) (_, _) (_, _) (_, _) _ c.report.ensures.reports
-    c.in-Err.ensures.follows (attempts_meant c.task_laws.ensures.any (words_of c.args.words.now) _ _ _ _ (Err c.in-Err.stop) c.in-Err.ensures.outcome) c.in-Err.ensures.unsaid
+    c.in-Err.ensures.follows (attempts_meant c.task_laws.ensures.any (words_of c.args.words.now) _ _ _ _ (Err c.in-Err.stop)
+    c.in-Err.ensures.outcome) c.in-Err.ensures.unsaid
     c.in-Err.ensures.put c.in-Err.ensures.said
 
 pub returns-in-Err-clause-no_memory : goal.returns-in-Err-clause-no_memory
 returns-in-Err-clause-no_memory g c =
     no_memory meaning (words_of c.args.words.now) c.in-Err.stop (_, _) (_, _) (_, _) (_, _) (_, _) _ c.report.ensures.reports
-    c.in-Err.ensures.follows (attempts_meant c.task_laws.ensures.any (words_of c.args.words.now) _ _ _ _ (Err c.in-Err.stop) c.in-Err.ensures.outcome) c.in-Err.ensures.unsaid c.in-Err.ensures.said
+    c.in-Err.ensures.follows (attempts_meant c.task_laws.ensures.any (words_of c.args.words.now) _ _ _ _ (Err c.in-Err.stop)
+    c.in-Err.ensures.outcome) c.in-Err.ensures.unsaid c.in-Err.ensures.said
 
 pub returns-in-Err-clause-steady : goal.returns-in-Err-clause-steady
 returns-in-Err-clause-steady g c =
@@ -204,25 +222,30 @@ returns-in-Err-clause-held g c = keeps_meant c.task_laws.ensures.any (words_of c
 
 pub returns-in-Err-clause-logged : goal.returns-in-Err-clause-logged
 returns-in-Err-clause-logged g c = record {
-  answered = stopped_shown (words_of c.args.words.now) (_, _) c.in-Err.stop (_, _) (_, _) (_, _) (_, _) (_, _) c.in-Err.ensures.follows c.in-Err.ensures.outcome c.in-Err.ensures.unsaid c.in-Err.ensures.put
+  answered = stopped_shown (words_of c.args.words.now) (_, _) c.in-Err.stop (_, _) (_, _) (_, _) (_, _) (_, _) c.in-Err.ensures.follows
+      c.in-Err.ensures.outcome c.in-Err.ensures.unsaid c.in-Err.ensures.put
       c.in-Err.ensures.said _ c.report.ensures.reports;
   held = c.in-Err.ensures.held;
-  complete = settles c.task_laws.ensures.one _ (words_of c.args.words.now) c.in-Err.stop _ (_, _) (_, _) (_, _) (_, _) (_, _) (_, _) _ c.in-Err.ensures.outcome
+  complete = settles c.task_laws.ensures.one _ (words_of c.args.words.now) c.in-Err.stop _ (_, _) (_, _) (_, _) (_, _) (_, _) (_, _) _
+      c.in-Err.ensures.outcome
       (record { read = c.in-Err.ensures.read; put = c.in-Err.ensures.put; said = c.in-Err.ensures.said }) c.report.ensures.reports;
-  due = due c.task_laws.ensures.one _ (words_of c.args.words.now) c.in-Err.stop _ (_, _) (_, _) (_, _) (_, _) (_, _) (_, _) _ c.in-Err.ensures.outcome
+  due = due c.task_laws.ensures.one _ (words_of c.args.words.now) c.in-Err.stop _ (_, _) (_, _) (_, _) (_, _) (_, _) (_, _) _
+      c.in-Err.ensures.outcome
       (record { read = c.in-Err.ensures.read; put = c.in-Err.ensures.put; said = c.in-Err.ensures.said }) c.report.ensures.reports;
 }
 
 pub returns-in-Err-clause-complete : goal.returns-in-Err-clause-complete
 returns-in-Err-clause-complete g c =
     complete c.task_laws.ensures.none _ (words_of c.args.words.now) (_, _) (_, _) (_, _) (_, _) _
-    (settles c.task_laws.ensures.one _ (words_of c.args.words.now) c.in-Err.stop _ (_, _) (_, _) (_, _) (_, _) (_, _) (_, _) _ c.in-Err.ensures.outcome
+    (settles c.task_laws.ensures.one _ (words_of c.args.words.now) c.in-Err.stop _ (_, _) (_, _) (_, _) (_, _) (_, _) (_, _) _
+    c.in-Err.ensures.outcome
     (record { read = c.in-Err.ensures.read; put = c.in-Err.ensures.put; said = c.in-Err.ensures.said }) c.report.ensures.reports)
 
 pub returns-in-Err-clause-due : goal.returns-in-Err-clause-due
 returns-in-Err-clause-due g c =
     refusals_due c.task_laws.ensures.none _ (words_of c.args.words.now) (_, _) (_, _) (_, _) (_, _) _
-    (due c.task_laws.ensures.one _ (words_of c.args.words.now) c.in-Err.stop _ (_, _) (_, _) (_, _) (_, _) (_, _) (_, _) _ c.in-Err.ensures.outcome
+    (due c.task_laws.ensures.one _ (words_of c.args.words.now) c.in-Err.stop _ (_, _) (_, _) (_, _) (_, _) (_, _) (_, _) _
+    c.in-Err.ensures.outcome
     (record { read = c.in-Err.ensures.read; put = c.in-Err.ensures.put; said = c.in-Err.ensures.said }) c.report.ensures.reports)
 
 pub returns-in-Err-clause-kept : goal.returns-in-Err-clause-kept

@@ -5,7 +5,8 @@ pub returns : goal.returns
 returns c =
     let versions = c.laws.ensures.total in
     record {
-      earlier_list = λ problem name a b here there list. sorted versions problem name a b here there (by-list versions problem name a b list);
+      earlier_list = λ problem name a b here there list. sorted versions problem name a b here there
+          (by-list versions problem name a b list);
       preferred = λ problem name a b here there list mine yours.
           sorted versions problem name a b here there (by-preferred versions problem name a b list mine yours);
       not_deprecated = λ problem name a b here there list preferred mine yours.

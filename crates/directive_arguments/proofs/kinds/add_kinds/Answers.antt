@@ -1,5 +1,6 @@
 use Rattle.directive_arguments.specs.Results.{steps}
-use Rattle.directive_arguments.specs.Keywords.{element_kind, no_kinds}
+use Rattle.directive_arguments.specs.Keywords.{element_kind}
+use Rattle.graph_core.specs.Graphs.{no_kinds}
 use Rattle.directive_arguments.proofs.StepLaws.{steps_err}
 use Rattle.directive_arguments.proofs.kinds.add_kinds.Goals as goal
 

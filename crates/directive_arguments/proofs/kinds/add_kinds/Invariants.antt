@@ -1,6 +1,7 @@
 use Rattle.std.proofs.Common.{◌≡◌, drop}
 use Rattle.directive_arguments.specs.Results.{steps}
-use Rattle.directive_arguments.specs.Keywords.{element_kind, no_kinds}
+use Rattle.directive_arguments.specs.Keywords.{element_kind}
+use Rattle.graph_core.specs.Graphs.{no_kinds}
 use Rattle.directive_arguments.proofs.kinds.add_kinds.Given as goal
 
 abbrev pub invariant-loop-element : goal.invariant-loop-element

@@ -1,5 +1,4 @@
-use Rattle.std.proofs.Common.{sym, ap, ◌∙◌}
-use Rattle.std.proofs.lemmas.Result.{on_ok_weaker}
+use Rattle.std.proofs.Common.{◌∙◌}
 use Rattle.clause_formulas.specs.Gated.{gated}
 use Rattle.graph_encoding.specs.Ranges.{path_words}
 use Rattle.graph_encoding.proofs.Steps.{conditions_range, values_made}

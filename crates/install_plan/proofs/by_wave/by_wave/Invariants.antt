@@ -1,5 +1,5 @@
 use Rattle.std.proofs.Common.{take}
-use Rattle.install_plan.specs.Children.{built_of, wave_in, IsGreatest}
+use Rattle.install_plan.specs.Children.{built_of, wave_in}
 use Rattle.install_plan.proofs.WaveLaws.{AreSorted}
 use Rattle.install_plan.proofs.by_wave.by_wave.Given as goal
 

@@ -1,4 +1,4 @@
-use Rattle.std.proofs.Common.{◌≡◌, ◌<◌, ◌∙◌, sym, ap, inl, inr, length, arith}
+use Rattle.std.proofs.Common.{◌<◌, ◌∙◌, sym, ap, inl, inr, length, arith}
 use Rattle.install_plan.proofs.WaveLaws.{greatest_step}
 use Rattle.install_plan.proofs.by_wave.greatest_built.Goals as goal
 use Rattle.install_plan.proofs.by_wave.greatest_built.Goals.{then-is_built+then-numbers-place, else-is_built, else-is_built-via-then-is_built+else-numbers-place, else-is_built-via-else-is_built}

@@ -14,7 +14,8 @@ known_place-parent-requires c =
 pub known_place-child-requires : goal.known_place-child-requires
 known_place-child-requires c =
     let edges = c.edges-edge-items.ensures.edges in
-    rw c.as_str-then-joins_built.ensures (edge_ends c.args.graph.now c.edges-edge-items.ensures.graph _ _ (rw edges at c.loop-edge-test.true)
+    rw c.as_str-then-joins_built.ensures (edge_ends c.args.graph.now c.edges-edge-items.ensures.graph _ _
+    (rw edges at c.loop-edge-test.true)
     (rw edges at c.edge-item.is)).1
 
 pub loop-edge-preserved : goal.loop-edge-preserved

@@ -8,5 +8,6 @@ heads_of-requires c = rw (c.as_slice.ensures.value, c.nodes.ensures.nodes) (arcs
 
 pub returns-clause-children : goal.returns-clause-children
 returns-clause-children c = IfOk-weaker c.heads_of.result _ (λ heads. AreBuiltChildren c.args.graph.now heads.items)
-    (λ heads are. are_children c.args.graph.now _ heads.items c.in_ok-arcs.ensures (rw (c.as_slice.ensures.value, c.nodes.ensures.nodes) at are))
+    (λ heads are. are_children c.args.graph.now _ heads.items c.in_ok-arcs.ensures
+    (rw (c.as_slice.ensures.value, c.nodes.ensures.nodes) at are))
     c.heads_of.ensures.arcs

@@ -7,7 +7,8 @@ use Rattle.install_plan.proofs.ChildLaws.{place_tells, built_is_node}
 use Rattle.install_plan.proofs.children.is_to_build.Goals as goal
 
 pub returns-in-Ok : goal.returns-in-Ok
-returns-in-Ok c = rw c.is_built.ensures (place_tells c.args.graph.now c.in-Ok.ensures.graph c.args.name.now c.in-Ok.place c.index-nodes-place.result
+returns-in-Ok c =
+    rw c.is_built.ensures (place_tells c.args.graph.now c.in-Ok.ensures.graph c.args.name.now c.in-Ok.place c.index-nodes-place.result
     c.in-Ok.ensures.place (rw c.nodes.ensures.nodes at c.index-nodes-place.is))
 
 pub returns-in-Err : goal.returns-in-Err

@@ -1,6 +1,6 @@
 use Rattle.std.proofs.Common.{inl, inr}
 use Rattle.std.proofs.lemmas.List.{take_all}
-use Rattle.install_plan.proofs.NumberLaws.{top_more}
+use Rattle.install_plan.proofs.Greatest.{top_more}
 use Rattle.install_plan.proofs.numbers.greatest.Goals as goal
 use Rattle.install_plan.proofs.numbers.greatest.Goals.{then-numbers-place, else-numbers-place}
 

@@ -1,8 +1,9 @@
 use Rattle.std.proofs.Common.{◌≡◌, ◌<◌, ◌≤◌, subst, sym, length, inl, inr, ⊎_elim, Contains, arith}
 use Rattle.std.proofs.lemmas.Bool.{cases_lt}
 use Rattle.std.proofs.lemmas.List.Elements.{All-contains, Contains-push}
-use Rattle.install_plan.specs.Numbers.{number_at, Waits}
-use Rattle.install_plan.proofs.NumberLaws.{none_before, all_numbered}
+use Rattle.install_plan.specs.Numbers.{Waits}
+use Rattle.install_plan.proofs.SettleLaws.{all_numbered}
+use Rattle.install_plan.proofs.NumbersAlone.{none_before}
 use Rattle.install_plan.proofs.numbers.numbers_of.Goals as goal
 
 pub loop-place-preserved : goal.loop-place-preserved
@@ -11,7 +12,8 @@ loop-place-preserved c = record {
   waits = λ p lt none. ⊎_elim
       (λ (less : p < c.loop-place.place). c.in_ok-settle.ensures.waits p none (inr (c.loop-place.invariant.waits p less
       (none_before c.loop-place.numbers.items c.settle.new.numbers.items p c.in_ok-settle.ensures.kept none))))
-      (λ (le : c.loop-place.place ≤ p). let same : p ≡ c.loop-place.place = omega (arith, lt, le) in c.in_ok-settle.ensures.waits p none (inl same))
+      (λ (le : c.loop-place.place ≤ p). let same : p ≡ c.loop-place.place = omega (arith, lt, le) in
+      c.in_ok-settle.ensures.waits p none (inl same))
       (cases_lt p c.loop-place.place);
 }
 

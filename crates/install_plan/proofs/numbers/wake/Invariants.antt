@@ -1,6 +1,6 @@
-use Rattle.std.proofs.Common.{◌≡◌, ◌+◌, ◌++◌, ◌∷◌, [], length}
+use Rattle.std.proofs.Common.{◌+◌, ◌++◌, ◌∷◌, [], length}
 use Rattle.install_plan.specs.Numbers.{missing, Waits}
-use Rattle.install_plan.proofs.NumberLaws.{IsWoken}
+use Rattle.install_plan.proofs.SettleLaws.{IsWoken}
 use Rattle.install_plan.proofs.numbers.wake.Given as goal
 
 abbrev pub invariant-loop-waiter : goal.invariant-loop-waiter

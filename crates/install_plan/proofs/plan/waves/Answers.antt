@@ -4,7 +4,8 @@ use Rattle.install_plan.proofs.WaveLaws.{are_waves, go_down}
 use Rattle.install_plan.proofs.plan.waves.Goals as goal
 
 pub numbers_of-requires-clause-heights : goal.numbers_of-requires-clause-heights
-numbers_of-requires-clause-heights c = rw c.as_slice.ensures.value (have_heights c.args.graph.now _ c.in_ok-children.ensures.children c.requires)
+numbers_of-requires-clause-heights c = rw c.as_slice.ensures.value
+    (have_heights c.args.graph.now _ c.in_ok-children.ensures.children c.requires)
 
 pub chain_of-requires : goal.chain_of-requires
 chain_of-requires c =
@@ -14,7 +15,8 @@ chain_of-requires c =
     let numbers = c.in_ok-numbers.numbers.items in
     let found = rw c.as_slice.ensures.value at c.in_ok-numbers.ensures in
     rw c.as_slice-3.ensures.value (go_down g graph (wave_in g numbers) c.in_ok-waves.waves.items
-    (rw c.as_slice-2.ensures.value at c.in_ok-waves.ensures) (earliest g c.in_ok-children.children.items children graph numbers found).schedule.from_one
+    (rw c.as_slice-2.ensures.value at c.in_ok-waves.ensures)
+    (earliest g c.in_ok-children.children.items children graph numbers found).schedule.from_one
     (steps_down g c.in_ok-children.children.items children graph numbers found))
 
 pub returns : goal.returns

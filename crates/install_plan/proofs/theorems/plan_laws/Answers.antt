@@ -1,4 +1,4 @@
-use Rattle.std.proofs.Common.{◌≡◌, ◌∙◌, ◌≤◌, None, length, reverse, arith}
+use Rattle.std.proofs.Common.{◌∙◌, ◌≤◌, None, length, reverse, arith}
 use Rattle.std.proofs.lemmas.List.{length-reverse}
 use Rattle.install_plan.specs.Schedules.{IsBuilt}
 use Rattle.install_plan.proofs.ChainLaws.{as_many, all_of_chain, shown_by, waves_built}

@@ -15,7 +15,8 @@ returns g c =
     let by : Bor (List ℕ) × Bor g.row.T.Denot → Ordering = λ e. byte_cmp e.0.now c.args.text.now in
     let seen : Bor (List ℕ) × Bor g.row.T.Denot → List ℕ × g.row.T.Denot = λ e. (e.0.now, e.1.now) in
     let entries = c.args.entries.now in
-    let rises = searchable_from_sorted nat_list_cmp_total (λ (e : Bor (List ℕ) × Bor g.row.T.Denot). e.0.now) entries c.args.text.now c.requires in
+    let rises = searchable_from_sorted nat_list_cmp_total (λ (e : Bor (List ℕ) × Bor g.row.T.Denot). e.0.now) entries
+    c.args.text.now c.requires in
     let first = c.partition_point-first.ensures in
     let end = c.partition_point-end.ensures in
     let lt = IsPartitionPoint-from_clause (λ e. is_lt (by e)) entries _ first.partitioned (lt_parts by entries rises)

@@ -4,7 +4,7 @@ use Rattle.level_encoding.proofs.Lists.{all-at}
 use Rattle.reachability.specs.Paths.{spread, reached, reaches, joined}
 use Rattle.level_encoding.specs.Counts.{total_below, count_below}
 use Rattle.clause_formulas.specs.Statements.{eval, any_statement, opposite}
-use Rattle.level_encoding.specs.Composed.{conjunction, implication_clause, rising}
+use Rattle.level_encoding.specs.Composed.{rising}
 use Rattle.level_encoding.specs.Input.{possible, node, is_root_number, is_asked_target}
 use Rattle.level_encoding.specs.Encoding.{width, level_width, level_start, level, leads, ways, path_start, way, turn_start, is_inside, turns, arcs_rules, arc_rules, node_rules, begins_path, way_rules, path_rules, constraints, end}
 use Rattle.level_encoding.specs.Rows.{holds, loop_and_tail}
@@ -32,7 +32,6 @@ pub returns-clause-taken : goal.returns-clause-taken
 unfolding spread reached reaches joined total_below count_below possible node is_root_number is_asked_target width level_width level_start
     level leads ways
     path_start way turn_start is_inside turns arc_rules arcs_rules node_rules begins_path way_rules path_rules constraints rising
-    conjunction implication_clause
 returns-clause-taken c = refl
 
 -- the first clause of one arc and the second of the other

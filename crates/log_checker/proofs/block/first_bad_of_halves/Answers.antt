@@ -12,7 +12,8 @@ returns g c =
     let k = length lines - length lines / 2 in
     let front = c.split_at.result.0.now in
     let back = c.split_at.result.1.now in
-    c.either.ensures ∙ halves bits known n k lines front back c.in_ok-one.one c.in_ok-other.other c.split_at.ensures.front c.split_at.ensures.back (omega arith)
+    c.either.ensures ∙ halves bits known n k lines front back c.in_ok-one.one c.in_ok-other.other c.split_at.ensures.front
+    c.split_at.ensures.back (omega arith)
     (ok-is c.first_bad_of_parts-one.result.0 c.in_ok-one.one
     (λ bad. bad ≡ first_bad bits known n front) c.in_ok-one.was c.first_bad_of_parts-one.ensures.front)
     (ok-is c.first_bad_of_parts-one.result.1 c.in_ok-other.other

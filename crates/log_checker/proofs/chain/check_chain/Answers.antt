@@ -1,4 +1,4 @@
-use Rattle.std.proofs.Common.{◌∙◌, ◌≡◌, ◌+◌, ◌∷◌, ℕ, refl, sym, subst, drop, arith, length}
+use Rattle.std.proofs.Common.{◌∙◌, ◌≡◌, ◌+◌, ◌∷◌, refl, sym, subst, drop, arith, length}
 use Rattle.std.specs.Prelude.{IfOk}
 use Rattle.proof_log.specs.Resolution.{IdsIn, clause_at}
 use Rattle.std.proofs.lemmas.List.{drop_more, drop_all}
@@ -15,7 +15,8 @@ loop-id-init c =
     let whole : c.args.chain.now ≡ c.in-Some.first.now ∷ c.in-Some.rest.now = c.in-Some.ensures.cases.0 in (
       subst (λ ids. IsOnWay c.args.known.now ids c.args.stated.now (sign_of c.put_all.new.signs) c.in-Some.rest.now) (sym whole)
           (begin c.args.known.now c.args.stated.now c.in-Some.first.now c.in-Some.rest.now (sign_of c.clear.new.self)
-          (sign_of c.put_all.new.signs) c.lits_of.result.now c.lits_of.ensures.value c.lits_of.ensures.in_order c.clear.ensures c.in_ok-put_all.ensures (subst (IdsIn (length c.args.known.now)) whole c.requires)),
+          (sign_of c.put_all.new.signs) c.lits_of.result.now c.lits_of.ensures.value c.lits_of.ensures.in_order c.clear.ensures
+          c.in_ok-put_all.ensures (subst (IdsIn (length c.args.known.now)) whole c.requires)),
       kept-none (sign_of c.put_all.new.signs) (clause_at (clauses_in c.args.known.now)) _ c.new-uses.ensures,
     )
 

@@ -7,12 +7,14 @@ use Rattle.log_checker.proofs.index.find_rival.Goals as goal
 pub loop-next-init : goal.loop-next-init
 loop-next-init c =
     seeks-first (bucket_of c.args.factor (length c.args.heads.now)) c.args.heads.now c.args.links.now c.args.known.now c.args.lits.now
-    c.bucket_of.result (get_or c.args.heads.now c.bucket_of.result 0) c.requires.linked c.bucket_of.ensures.value c.bucket_of.ensures.within refl
+    c.bucket_of.result (get_or c.args.heads.now c.bucket_of.result 0) c.requires.linked c.bucket_of.ensures.value
+    c.bucket_of.ensures.within refl
 
 pub returns-then-are_same : goal.returns-then-are_same
 returns-then-are_same c =
     let next : c.loop-next.next ≡ suc (c.loop-next.next - 1) = omega (arith, c.loop-next-test.true) in
-    sym (seeks-found (bucket_of c.args.factor (length c.args.heads.now)) c.args.known.now c.args.lits.now c.loop-next.next (c.loop-next.next - 1)
+    sym (seeks-found (bucket_of c.args.factor (length c.args.heads.now)) c.args.known.now c.args.lits.now c.loop-next.next
+    (c.loop-next.next - 1)
     _ c.loop-next.invariant next c.get-other.ensures.value (sym c.are_same.ensures ∙ c.if-are_same.true))
 
 pub loop-next-smaller : goal.loop-next-smaller

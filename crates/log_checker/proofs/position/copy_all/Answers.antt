@@ -17,7 +17,8 @@ loop-place-preserved c =
           subst P (sym w.store-is) (
             copied cs c.loop-place.place w.in-Some.clause c.loop-place.store w.take_input.new.store
                 (sym w.in-Some.is ∙ c.in_ok-clause.ensures) e c.loop-place.invariant.0,
-            ordered-push c.loop-place.store w.take_input.new.store w.in-Some.clause e c.loop-place.invariant.1 w.take_input.ensures.in_order,
+            ordered-push c.loop-place.store w.take_input.new.store w.in-Some.clause e c.loop-place.invariant.1
+                w.take_input.ensures.in_order,
           )
       | in-None w ↦ subst P (sym w.store-is) (
         passed cs c.loop-place.place c.loop-place.store

@@ -13,8 +13,12 @@ loop-var-preserved c =
       | then-place-marks w ↦ subst P (sym w.marks-is) (
         length-set c.loop-var.marks _ None
             ∙ c.loop-var.invariant.0,
-        cleared-step c.loop-var.marks c.args.vars.now c.loop-var.var-index _ c.loop-var-test.true w.if-place-marks.true c.loop-var.invariant.1,
+        cleared-step c.loop-var.marks c.args.vars.now c.loop-var.var-index _ c.loop-var-test.true w.if-place-marks.true
+            c.loop-var.invariant.1,
       )
-      | else-place-marks w ↦ subst P (sym w.marks-is)
-          (c.loop-var.invariant.0, passed-step c.loop-var.marks c.args.vars.now c.loop-var.var-index _ c.loop-var-test.true w.if-place-marks.false c.loop-var.invariant.1)
+      | else-place-marks w ↦ subst P (sym w.marks-is) (
+        c.loop-var.invariant.0,
+        passed-step c.loop-var.marks c.args.vars.now c.loop-var.var-index _ c.loop-var-test.true
+            w.if-place-marks.false c.loop-var.invariant.1,
+      )
     ]

@@ -12,7 +12,8 @@ returns-then-is_of c =
     let point = IsPartitionPoint-from_clause (λ k. ltb (var_of k) n) _ _ c.partition_point-place.ensures.partitioned
     (clause-parted n _ c.requires) (λ a r q k. search rules) in
     let place = place-parted _ (lit n true) _ c.partition_point-place.ensures.bound point in
-    at-found c.args.lits.now n _ c.requires place c.in-Some.lit (sym c.lit_in.ensures ∙ c.in-Some.is) (sym c.is_of.ensures ∙ c.if-is_of.true)
+    at-found c.args.lits.now n _ c.requires place c.in-Some.lit (sym c.lit_in.ensures ∙ c.in-Some.is) (sym c.is_of.ensures
+    ∙ c.if-is_of.true)
 
 pub returns-else-is_of : goal.returns-else-is_of
 returns-else-is_of c =
@@ -20,7 +21,8 @@ returns-else-is_of c =
     let point = IsPartitionPoint-from_clause (λ k. ltb (var_of k) n) _ _ c.partition_point-place.ensures.partitioned
     (clause-parted n _ c.requires) (λ a r q k. search rules) in
     let place = place-parted _ (lit n true) _ c.partition_point-place.ensures.bound point in
-    at-other c.args.lits.now n _ c.requires place c.in-Some.lit (sym c.lit_in.ensures ∙ c.in-Some.is) (sym c.is_of.ensures ∙ c.if-is_of.false)
+    at-other c.args.lits.now n _ c.requires place c.in-Some.lit (sym c.lit_in.ensures ∙ c.in-Some.is) (sym c.is_of.ensures
+    ∙ c.if-is_of.false)
 
 pub returns-in-None : goal.returns-in-None
 returns-in-None c =

@@ -11,8 +11,10 @@ trim-requires-in-Refuted c =
 
 pub returns-in_ok-log-in-Optimal-clause-found : goal.returns-in_ok-log-in-Optimal-clause-found
 returns-in_ok-log-in-Optimal-clause-found c =
-    optimal-found c.args._clauses.now c.args._bits.now c.args._budget c.args.found _ _ _ c.in-Optimal.is c.in_ok-log-in-Optimal.ensures c.requires
+    optimal-found c.args._clauses.now c.args._bits.now c.args._budget c.args.found _ _ _ c.in-Optimal.is
+    c.in_ok-log-in-Optimal.ensures c.requires
 
 pub returns-in_ok-log-in-Refuted-clause-found : goal.returns-in_ok-log-in-Refuted-clause-found
 returns-in_ok-log-in-Refuted-clause-found c =
-    refuted-found c.args._clauses.now c.args._bits.now c.args._budget c.args.found _ _ c.in-Refuted.is c.in_ok-log-in-Refuted.ensures c.requires
+    refuted-found c.args._clauses.now c.args._bits.now c.args._budget c.args.found _ _ c.in-Refuted.is
+    c.in_ok-log-in-Refuted.ensures c.requires

@@ -1,4 +1,4 @@
-use Rattle.graph_rules.specs.Kept.{installed_node}
+use Rattle.reuse_db.specs.Installed.{installed_node}
 use Rattle.graph_formulas.specs.Kept.{same_rule}
 use Rattle.word_formulas.specs.Builders.{plain_said}
 use Rattle.word_formulas.proofs.Steps.{ok-same}
@@ -8,6 +8,8 @@ use Rattle.node_formulas.proofs.attributes.same_record.Goals as goal
 pub returns : goal.returns
 unfolding installed_node
 returns c = ok-same c.place_is.result _ (plain_said c.args.table.now (same_rule c.args.name.now (installed_node c.args.entry.now)))
-    (same-steps c.args.table.now c.args.name.now (installed_node c.args.entry.now) c.as_str.result.now c.text.result.now c.as_slice.result.now c.as_str-2.result.now c.as_str-3.result.now
-    c.in_ok-software.software c.in_ok-system.system c.as_str.ensures c.text.ensures.text c.as_slice.ensures c.as_str-2.ensures c.as_str-3.ensures
+    (same-steps c.args.table.now c.args.name.now (installed_node c.args.entry.now) c.as_str.result.now c.text.result.now
+    c.as_slice.result.now c.as_str-2.result.now c.as_str-3.result.now
+    c.in_ok-software.software c.in_ok-system.system c.as_str.ensures c.text.ensures.text c.as_slice.ensures c.as_str-2.ensures
+    c.as_str-3.ensures
     c.in_ok-software.ensures c.in_ok-system.ensures) c.place_is.ensures

@@ -9,6 +9,7 @@ use Rattle.node_formulas.proofs.attributes.software_is.Goals as goal
 pub returns : goal.returns
 returns c =
     let table = c.args.table.now in
-    let named = c.given-named.ensures ∙ ap given_said c.eq.ensures ∙ given-said (word_said no_paths table) (bytes_eq c.args.name.now c.args.own.now) in
+    let named = c.given-named.ensures ∙ ap given_said c.eq.ensures
+    ∙ given-said (word_said no_paths table) (bytes_eq c.args.name.now c.args.own.now) in
     ok-same c.both-2.result _ (plain_said table (software_rule c.args.name.now c.args.own.now c.args.version.now c.args.variants.now))
     (both-same _ _ _ _ (c.in_ok-first.ensures ∙ both-same _ _ _ _ named c.in_ok-version.ensures) c.in_ok-variants.ensures) c.both-2.ensures

@@ -6,4 +6,5 @@ use Rattle.node_formulas.specs.Rows.{built_said}
 use Rattle.node_formulas.proofs.built_rows.buildable_row.Goals as goal
 
 pub returns : goal.returns
-returns c = c.each_name.ensures (λ (n : Text). built_said c.args.table.now n (plain_said c.args.table.now (buildable_rule c.args.problem.now n))) (λ x r says. search rules)
+returns c = c.each_name.ensures (λ (n : Text). built_said c.args.table.now n
+    (plain_said c.args.table.now (buildable_rule c.args.problem.now n))) (λ x r says. search rules)

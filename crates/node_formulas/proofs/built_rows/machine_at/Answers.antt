@@ -11,5 +11,6 @@ returns c =
     let table = c.args.table.now in
     let rule = λ (n : Text). plain_said table (machine_rule c.args.problem.now n) in
     ok-same c.where_built.result _ (built_said table c.args.name.now (rule c.args.name.now))
-    (ap (built_said table c.as_str-name.result.now) c.in_ok-rule.ensures ∙ ap (λ (n : Text). built_said table n (rule n)) c.as_str-name.ensures)
+    (ap (built_said table c.as_str-name.result.now) c.in_ok-rule.ensures
+    ∙ ap (λ (n : Text). built_said table n (rule n)) c.as_str-name.ensures)
     c.where_built.ensures

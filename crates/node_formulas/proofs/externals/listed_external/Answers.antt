@@ -14,7 +14,8 @@ returns-in-Some c =
     let said = λ (o : Option ExternalEntry). plain_said c.args.table.now
     (one_keeps o (λ entry. same_rule c.args.name.now (external_node c.args.problem.now c.args.name.now c.args.place entry))) in
     let at = λ (n : Text). slice_get (externals_in (package_entry_of c.args.problem.now n)) c.args.place in
-    ok-same c.same_external.result _ (said (at c.args.name.now)) (ap said (c.in-Some.ensures ∙ ap at c.as_str.ensures)) c.same_external.ensures
+    ok-same c.same_external.result _ (said (at c.args.name.now)) (ap said (c.in-Some.ensures ∙ ap at c.as_str.ensures))
+    c.same_external.ensures
 
 pub returns-in-None : goal.returns-in-None
 returns-in-None c =

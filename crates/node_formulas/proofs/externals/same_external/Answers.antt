@@ -12,5 +12,6 @@ returns c =
     let table = c.args.table.now in
     let whole = external_node c.args.problem.now c.args.name.now c.args.place c.args.entry.now in
     ok-same c.same_formula.result _ (plain_said table (same_rule c.args.name.now whole))
-    (ap (λ (k : Node). plain_said table (same_rule c.as_str.result.now k)) c.in_ok-node.ensures ∙ ap (λ (n : Text). plain_said table (same_rule n whole)) c.as_str.ensures)
+    (ap (λ (k : Node). plain_said table (same_rule c.as_str.result.now k)) c.in_ok-node.ensures
+    ∙ ap (λ (n : Text). plain_said table (same_rule n whole)) c.as_str.ensures)
     c.same_formula.ensures

@@ -10,6 +10,7 @@ use Rattle.node_formulas.proofs.kept.dependency_parts.Goals as goal
 pub returns : goal.returns
 returns c =
     let said = λ (d : Dependency). plain_said c.args.table.now (dependency_rule c.args.problem.now c.args.name.now d) in
-    ended (λ (d : Dependency). only_if (d.kinds.link || d.kinds.run) (said d)) c.args.dependencies.now c.args.dependencies.now c.loop-dependency.dependency-index c.loop-dependency.parts.items _
+    ended (λ (d : Dependency). only_if (d.kinds.link || d.kinds.run) (said d)) c.args.dependencies.now c.args.dependencies.now
+    c.loop-dependency.dependency-index c.loop-dependency.parts.items _
     refl (drop_all c.loop-dependency.dependency-index c.args.dependencies.now c.loop-dependency-test.false) c.loop-dependency.invariant
     (pushed-if (λ (d : Dependency). d.kinds.link || d.kinds.run) said c.args.dependencies.now)

@@ -1,10 +1,9 @@
 use Rattle.std.proofs.Common.{ap, ◌∙◌}
 use Rattle.clause_formulas.specs.Rules.{fact, isnt}
-use Rattle.graph_core.specs.Graphs.{Text}
+use Rattle.graph_core.specs.Graphs.{Text, no_kinds}
 use Rattle.graph_core.specs.declared.node.Origin.TheVariants.{External}
 use Rattle.graph_formulas.specs.Facts.{has_edge}
 use Rattle.graph_formulas.specs.Lists.{each_keeps}
-use Rattle.graph_formulas.specs.Edges.{no_kinds}
 use Rattle.graph_formulas.specs.Kept.{origin_rule}
 use Rattle.word_formulas.specs.Builders.{plain_said}
 use Rattle.word_formulas.proofs.Steps.{ok-same, both-same}

@@ -11,9 +11,11 @@ returns c =
     let table = c.args.table.now in
     let child = c.args.child.now in
     let hash = c.args.dependency.now.hash in
-    let installed = ok-is c.origin_passes.result c.in_ok-installed.installed (node_said table child (has_origin (installs hash))) c.in_ok-installed.was
+    let installed = ok-is c.origin_passes.result c.in_ok-installed.installed (node_said table child (has_origin (installs hash)))
+    c.in_ok-installed.was
     (c.origin_passes.ensures (installs hash) (λ x b says. search rules)) in
     let joined = c.in_ok-joined.ensures ∙ both-same _ _ _ _ installed c.in_ok-recorded.ensures in
-    let provided = c.in_ok-provided.ensures ∙ ap (λ (virtuals : List Text). plain_said table (provided_rule child virtuals)) c.values.ensures.texts in
+    let provided = c.in_ok-provided.ensures ∙ ap (λ (virtuals : List Text). plain_said table (provided_rule child virtuals))
+    c.values.ensures.texts in
     ok-same c.both-2.result _ (plain_said table (joined_rule c.args.name.now child c.args.dependency.now))
     (both-same _ _ _ _ joined provided) c.both-2.ensures

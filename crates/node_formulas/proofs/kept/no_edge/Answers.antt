@@ -1,10 +1,9 @@
 use Rattle.std.proofs.Common.{ap, ◌∙◌}
 use Rattle.clause_formulas.specs.Rules.{fact, isnt}
 use Rattle.clause_formulas.specs.Statements.{opposite}
-use Rattle.graph_core.specs.Graphs.{Text}
+use Rattle.graph_core.specs.Graphs.{Text, no_kinds}
 use Rattle.graph_core.specs.declared.node.Kinds.{Kinds}
 use Rattle.graph_formulas.specs.Facts.{has_edge}
-use Rattle.graph_formulas.specs.Edges.{no_kinds}
 use Rattle.word_formulas.specs.Builders.{plain_said}
 use Rattle.node_formulas.proofs.kept.no_edge.Goals as goal
 

@@ -1,10 +1,9 @@
 use Rattle.std.proofs.Common.{rules, sym, map}
 use Rattle.clause_formulas.specs.Rules.{fact, isnt}
 use Rattle.clause_formulas.specs.Statements.{all_statements}
-use Rattle.graph_core.specs.Graphs.{Text}
+use Rattle.graph_core.specs.Graphs.{Text, no_kinds}
 use Rattle.graph_formulas.specs.Facts.{word_said, has_edge}
 use Rattle.graph_formulas.specs.Lists.{each_keeps}
-use Rattle.graph_formulas.specs.Edges.{no_kinds}
 use Rattle.word_formulas.specs.Builders.{no_paths, plain_said}
 use Rattle.word_formulas.proofs.Steps.{ok-same, each-said}
 use Rattle.node_formulas.proofs.kept.no_edges.Goals as goal

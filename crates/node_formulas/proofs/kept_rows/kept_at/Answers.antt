@@ -12,5 +12,7 @@ pub returns : goal.returns
 returns c =
     let table = c.args.table.now in
     let name = c.args.name.now in
-    ok-same c.implies.result _ (there_said table name (plain_said table (kept_rule c.args.problem.now (children_of table name) (origins_of table name) name)))
-    (implies-same _ _ _ _ (c.is_there-there.ensures ∙ ap (λ (n : Text). node_said table n is_there) c.as_str.ensures) c.in_ok-kept.ensures) c.implies.ensures
+    ok-same c.implies.result _ (there_said table name
+    (plain_said table (kept_rule c.args.problem.now (children_of table name) (origins_of table name) name)))
+    (implies-same _ _ _ _ (c.is_there-there.ensures ∙ ap (λ (n : Text). node_said table n is_there) c.as_str.ensures) c.in_ok-kept.ensures)
+    c.implies.ensures

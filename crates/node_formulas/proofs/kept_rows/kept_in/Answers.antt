@@ -20,7 +20,8 @@ returns c =
     let problem = c.args.problem.now in
     let name = c.args.name.now in
     let origins = c.args.block.now.origins in
-    let rule = λ (children : List Text) (origin : Origin). if_so (fact (node_has name (has_origin (same_origin origin)))) (origin_rule problem children name origin) in
+    let rule = λ (children : List Text) (origin : Origin). if_so (fact (node_has name (has_origin (same_origin origin))))
+    (origin_rule problem children name origin) in
     ok-same c.origins_formula.result _ (plain_said table (kept_rule problem (children_of table name) (choice_values origins) name))
     (ap (λ (children : List Text). all_statements
     (map (λ (o : Origin × Lit). plain_said table (rule children o.0)) c.as_slice-2.result.now))

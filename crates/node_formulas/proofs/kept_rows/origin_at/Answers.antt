@@ -13,9 +13,11 @@ returns c =
     let table = c.args.table.now in
     let name = c.args.name.now in
     let origin = c.args.choice.now.0 in
-    let has = ok-is c.origin_passes.result c.in_ok-has.has (node_said table c.as_str.result.now (has_origin (same_origin origin))) c.in_ok-has.was
+    let has = ok-is c.origin_passes.result c.in_ok-has.has (node_said table c.as_str.result.now (has_origin (same_origin origin)))
+    c.in_ok-has.was
     (c.origin_passes.ensures (same_origin origin) (λ x b says. search rules))
     ∙ ap (λ (n : Text). node_said table n (has_origin (same_origin origin))) c.as_str.ensures in
     ok-same c.implies.result _
-    (plain_said table (if_so (fact (node_has name (has_origin (same_origin origin)))) (origin_rule c.args.problem.now c.args.children.now name origin)))
+    (plain_said table (if_so (fact (node_has name (has_origin (same_origin origin))))
+    (origin_rule c.args.problem.now c.args.children.now name origin)))
     (implies-same _ _ _ _ has c.in_ok-asked.ensures) c.implies.ensures

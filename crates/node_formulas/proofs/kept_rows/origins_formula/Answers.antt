@@ -10,5 +10,7 @@ use Rattle.node_formulas.proofs.kept_rows.origins_formula.Goals as goal
 
 pub returns : goal.returns
 returns c = c.each.ensures
-    (λ (o : Origin × Lit). plain_said c.args.table.now (if_so (fact (node_has c.args.name.now (has_origin (same_origin o.0)))) (origin_rule c.args.problem.now c.args.children.now c.args.name.now o.0)))
+    (λ (o : Origin × Lit). plain_said c.args.table.now
+    (if_so (fact (node_has c.args.name.now (has_origin (same_origin o.0))))
+    (origin_rule c.args.problem.now c.args.children.now c.args.name.now o.0)))
     (λ x r says. search rules)

@@ -11,4 +11,5 @@ returns c =
     let table = c.args.table.now in
     ok-same c.implies.result _ (plain_said table
     (if_so (fact (has_edge c.args.name.now c.args.child.now c.args.kind.now)) (settled_test c.args.recorded)))
-    (implies-same _ _ _ _ c.in_ok-edge.ensures (c.given-known.ensures ∙ given-said (word_said no_paths table) c.args.recorded)) c.implies.ensures
+    (implies-same _ _ _ _ c.in_ok-edge.ensures (c.given-known.ensures ∙ given-said (word_said no_paths table) c.args.recorded))
+    c.implies.ensures

@@ -8,7 +8,8 @@ pub loop-block-preserved : goal.loop-block-preserved
 loop-block-preserved g c = λ formula builds.
     let x = c.block-item.result in
     let made = ok-is c.part.result c.in_ok-made.made (formula x.name) c.in_ok-made.was (builds _ _ (says_at g.F.Fn c.part.ensures refl)) in
-    one_done (λ b. formula b.name) c.loop-block.parts.items c.push.new.self.items c.args.blocks.now c.loop-block.block-index x c.in_ok-made.made
+    one_done (λ b. formula b.name) c.loop-block.parts.items c.push.new.self.items c.args.blocks.now c.loop-block.block-index x
+    c.in_ok-made.made
     c.loop-block-test.true c.block-item.is made c.in_ok-push.ensures.items (c.loop-block.invariant formula builds)
 
 pub returns : goal.returns

@@ -6,4 +6,5 @@ use Rattle.node_formulas.specs.Rows.{providers_said}
 use Rattle.node_formulas.proofs.provider_rows.provider_row.Goals as goal
 
 pub returns : goal.returns
-returns c = c.each_virtual.ensures (providers_said c.args.table.now (λ (p : Text × Text). plain_said c.args.table.now (provider_rule c.args.problem.now p))) (λ x r says. search rules)
+returns c = c.each_virtual.ensures (providers_said c.args.table.now
+    (λ (p : Text × Text). plain_said c.args.table.now (provider_rule c.args.problem.now p))) (λ x r says. search rules)

@@ -8,5 +8,6 @@ use Rattle.node_formulas.proofs.provider_rows.providers_in.Goals as goal
 
 pub returns : goal.returns
 returns c = c.each.ensures
-    (λ (p : Text × Lit). provided_said c.args.table.now c.args.virtual_name.now p.0 (plain_said c.args.table.now (provider_rule c.args.problem.now (c.args.virtual_name.now, p.0))))
+    (λ (p : Text × Lit). provided_said c.args.table.now c.args.virtual_name.now p.0
+    (plain_said c.args.table.now (provider_rule c.args.problem.now (c.args.virtual_name.now, p.0))))
     (λ x r says. search rules)

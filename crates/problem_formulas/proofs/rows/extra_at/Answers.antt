@@ -18,7 +18,8 @@ returns g c =
     let problem = c.args.problem.now in
     let condition = g.C.MetConditions.condition_of c.args.conditions.now in
     let name = c.args.name.now in
-    let said = λ (n : Text). plain_term table condition (extra_edges_rule problem (names_for table) (virtuals_on table n) (children_of table n) n) in
+    let said = λ (n : Text). plain_term table condition
+    (extra_edges_rule problem (names_for table) (virtuals_on table n) (children_of table n) n) in
     let built = λ (n : Text). node_said table n (has_origin builds) in
     let rule = ok-is c.extra_edges_formula.result c.in_ok-rule.rule (said c.as_str.result.now) c.in_ok-rule.was
     c.extra_edges_formula.ensures ∙ ap said c.as_str.ensures in

@@ -14,4 +14,5 @@ returns g c =
     let problem = c.args.problem.now in
     let condition = g.C.MetConditions.condition_of c.args.conditions.now in
     c.each_name.ensures (λ (name : Text). plain_term table condition
-    (where_built name (extra_edges_rule problem (names_for table) (virtuals_on table name) (children_of table name) name))) (λ x r says. search rules)
+    (where_built name (extra_edges_rule problem (names_for table) (virtuals_on table name) (children_of table name) name)))
+    (λ x r says. search rules)

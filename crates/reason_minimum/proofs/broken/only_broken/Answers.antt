@@ -21,10 +21,12 @@ loop-place-preserved c =
     let IsMet : Option Label → Type 0 = λ o. IfNone o ((e : Entry) → at_id es (i + 1) ≡ Some e → entry_met asked v e ≡ true) in
     elim c.match-branch-2.branch [
       | in-Some+in-Some-only_one w ↦ subst P (sym w.broken-is)
-          (broken-put asked v es c.loop-place.broken i (omega (arith, c.loop-place-test.true, c.len-place-end.ensures)) c.loop-place.invariant
+          (broken-put asked v es c.loop-place.broken i (omega (arith, c.loop-place-test.true, c.len-place-end.ensures))
+          c.loop-place.invariant
           w.in-Some.label w.in-Some-only_one.demand (subst IsLabel w.in-Some.is c.in_ok-broken_label.ensures.label)
           w.in-Some-only_one.ensures.label w.in-Some-only_one.ensures.only)
       | in-None w ↦ subst P (sym w.broken-is)
-          (broken-pass asked v es c.loop-place.broken i (omega (arith, c.loop-place-test.true, c.len-place-end.ensures)) c.loop-place.invariant
+          (broken-pass asked v es c.loop-place.broken i (omega (arith, c.loop-place-test.true, c.len-place-end.ensures))
+          c.loop-place.invariant
           (subst IsMet w.in-None.is c.in_ok-broken_label.ensures.met))
     ]

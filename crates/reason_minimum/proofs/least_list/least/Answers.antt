@@ -1,4 +1,4 @@
-use Rattle.std.proofs.Common.{◌≡◌, sym, subst, [], List, ℕ, None}
+use Rattle.std.proofs.Common.{sym, subst, [], List, ℕ, None}
 use Rattle.optimum_search.specs.Finding.{IsFound, IsBest}
 use Rattle.optimum_search.specs.declared.found.Found.TheVariants.{Optimal, Refuted, Spent}
 use Rattle.reason_minimum.specs.Least.{IsSpentFor}
@@ -26,4 +26,5 @@ returns c =
     let best : IsBest s [] c.args.budget (Spent c.in-Spent.log) =
     c.found_laws.ensures s [] c.args.budget (Spent c.in-Spent.log) c.in_ok-model.ensures.in_order found in
     subst (λ (xs : List ℕ). IsSpentFor s c.args.budget xs None c.in-Spent.log) (sym c.from_vec.ensures)
-    (all-spent s c.args.budget ds c.in-Spent.log c.in_ok-demands-in-Spent.ensures.rising c.in_ok-demands-in-Spent.ensures.all found best.0 best.1)
+    (all-spent s c.args.budget ds c.in-Spent.log c.in_ok-demands-in-Spent.ensures.rising c.in_ok-demands-in-Spent.ensures.all found
+    best.0 best.1)

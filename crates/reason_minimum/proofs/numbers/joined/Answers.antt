@@ -1,4 +1,4 @@
-use Rattle.std.proofs.Common.{sym, ◌∙◌, subst, arith}
+use Rattle.std.proofs.Common.{sym, ◌∙◌, subst}
 use Rattle.explain_failure.specs.Uses.{IsRising}
 use Rattle.explain_failure.proofs.Numbers.{rising-with}
 use Rattle.reason_minimum.proofs.Placing.{joined-more}

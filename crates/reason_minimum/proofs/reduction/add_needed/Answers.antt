@@ -1,4 +1,4 @@
-use Rattle.std.proofs.Common.{◌≡◌, ◌≤◌, sym, ap, subst, List, Bool, ℕ, length, insert, arith}
+use Rattle.std.proofs.Common.{◌≤◌, sym, ap, subst, List, Bool, ℕ, length, insert, arith}
 use Rattle.reason_minimum.specs.Reductions.{AreModels}
 use Rattle.reason_minimum.proofs.Reducing.{models-insert}
 use Rattle.reason_minimum.proofs.reduction.add_needed.Goals as goal

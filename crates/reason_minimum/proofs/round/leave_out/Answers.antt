@@ -1,4 +1,4 @@
-use Rattle.std.proofs.Common.{◌≡◌, ◌∙◌, ap, subst, [], List, ℕ, Bool, drop}
+use Rattle.std.proofs.Common.{◌∙◌, ap, subst, [], List, ℕ, Bool, drop}
 use Rattle.std.specs.List.{filter}
 use Rattle.clause_store.specs.Clauses.{Clauses, Meets, clauses_of}
 use Rattle.proof_log.specs.Certificates.{IsSpentLog}
@@ -22,10 +22,12 @@ returns-in_ok-keep-in-Refuted c =
     let unmet = subst (λ (t : Clauses). (v : ℕ → Bool) → Meets (stands c.in_ok-demands-in-Refuted.demands) v t.entries → ⊥) same
     c.in_ok-demands-in-Refuted.ensures.unmet in
     kept-round c.args.clauses.now c.args.reduction.now c.keep.new.self c.count-count.result c.in_ok-rest.rest.items
-    c.in_ok-demands-in-Refuted.demands c.requires.reduces c.count-count.ensures.some c.count-count.ensures.within c.in_ok-rest.ensures.members
+    c.in_ok-demands-in-Refuted.demands c.requires.reduces c.count-count.ensures.some c.count-count.ensures.within
+    c.in_ok-rest.ensures.members
     unmet
     (c.in_ok-keep-in-Refuted.ensures.candidates
-    ∙ ap (λ (xs : List ℕ). filter (stands xs) (drop c.count-count.result c.args.reduction.now.candidates.items)) c.as_slice-in-Refuted.ensures)
+    ∙ ap (λ (xs : List ℕ). filter (stands xs) (drop c.count-count.result c.args.reduction.now.candidates.items))
+    c.as_slice-in-Refuted.ensures)
     c.in_ok-keep-in-Refuted.ensures.needed c.in_ok-keep-in-Refuted.ensures.models c.in_ok-keep-in-Refuted.ensures.several
 
 pub use_model-requires-clause-model : goal.use_model-requires-clause-model

@@ -10,7 +10,8 @@ returns-clause-first g c =
     ∙ halves_first c.args.parts.now c.split_at.result.0.now c.split_at.result.1.now _ 0 (length c.split_at.result.0.now)
     c.in_ok-one.one c.in_ok-other.other c.split_at.ensures.front c.split_at.ensures.back (omega arith)
     (IfOk-at_ok (λ bad. bad ≡ first_refused 0 c.split_at.result.0.now) c.in_ok-one.was c.join-one.ensures.first.0)
-    (IfOk-at_ok (λ bad. bad ≡ first_refused (length c.split_at.result.0.now) c.split_at.result.1.now) c.in_ok-other.was c.join-one.ensures.second.0)
+    (IfOk-at_ok (λ bad. bad ≡ first_refused (length c.split_at.result.0.now) c.split_at.result.1.now) c.in_ok-other.was
+    c.join-one.ensures.second.0)
 
 pub returns-clause-exact : goal.returns-clause-exact
 returns-clause-exact g c =

@@ -9,4 +9,5 @@ use Rattle.rule_checks.proofs.kept.is_child.Goals as goal
 pub returns : goal.returns
 returns c = rw c.as_slice.ensures at c.some_named.ensures
     ∙ any-filter (λ (d : Dependency). d.kinds.link || d.kinds.run)
-    (λ d. is_some_and (record_at c.args.problem.now d.hash) (λ child. bytes_eq child.name c.args.edge.now.child)) c.args.entry.now.dependencies
+    (λ d. is_some_and (record_at c.args.problem.now d.hash) (λ child. bytes_eq child.name c.args.edge.now.child))
+    c.args.entry.now.dependencies

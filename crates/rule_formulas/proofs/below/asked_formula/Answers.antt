@@ -23,7 +23,8 @@ returns-then-is_virtual c =
     ok-same c.some.result (any_statement (map formula c.packages.result.now))
     (rule_said path table (asked_rule world (names_for table) asked keeps))
     (ap (λ l. any_statement (map formula l)) (c.packages.ensures ∙ ap (packages_of table) c.as_str-then-is_virtual.ensures)
-    ∙ path-virtual path table world asked keeps (sym (ap (is_virtual world.recipes) c.as_str.ensures) ∙ sym c.is_virtual.ensures ∙ c.if-is_virtual.true))
+    ∙ path-virtual path table world asked keeps (sym (ap (is_virtual world.recipes) c.as_str.ensures) ∙ sym c.is_virtual.ensures
+    ∙ c.if-is_virtual.true))
     (c.some.ensures formula (λ x r says. search rules))
 
 pub returns-else-is_virtual : goal.returns-else-is_virtual
@@ -33,6 +34,8 @@ returns-else-is_virtual c =
     let world = c.args.world.now in
     let asked = c.args.asked.now in
     let keeps : NodeRule = reached_rule world c.args.from.now c.args.part.now asked in
-    ok-same c.reached_formula.result (rule_said path table (keeps asked)) (rule_said path table (asked_rule world (names_for table) asked keeps))
-    (path-package path table world asked keeps (sym (ap (is_virtual world.recipes) c.as_str.ensures) ∙ sym c.is_virtual.ensures ∙ c.if-is_virtual.false))
+    ok-same c.reached_formula.result (rule_said path table (keeps asked))
+    (rule_said path table (asked_rule world (names_for table) asked keeps))
+    (path-package path table world asked keeps (sym (ap (is_virtual world.recipes) c.as_str.ensures) ∙ sym c.is_virtual.ensures
+    ∙ c.if-is_virtual.false))
     c.reached_formula.ensures

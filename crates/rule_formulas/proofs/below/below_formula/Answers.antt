@@ -16,5 +16,6 @@ returns-in-Some c =
     let part = c.args.part.now in
     let said = λ (o : Option Text). rule_said path table
     (one_keeps o (λ (a : Text). asked_rule world (names_for table) a (reached_rule world from part a))) in
-    ok-same c.asked_formula.result (rule_said path table (asked_rule world (names_for table) c.in-Some.asked (reached_rule world from part c.in-Some.asked)))
+    ok-same c.asked_formula.result (rule_said path table
+    (asked_rule world (names_for table) c.in-Some.asked (reached_rule world from part c.in-Some.asked)))
     (rule_said path table (below_rule world (names_for table) from part)) (sym (ap said c.in-Some.is)) c.asked_formula.ensures

@@ -14,8 +14,10 @@ returns c =
     let asked = c.args.asked.now in
     let name = c.args.choice.now.0 in
     let reaches = reached_rule c.args.world.now c.args.from.now c.args.part.now asked name in
-    let provides = ok-is c.provider_formula.result c.in_ok-provides.provides (plain_said table (fact (provides_as asked name))) c.in_ok-provides.was c.provider_formula.ensures in
-    let reached = ok-is c.reached_formula.result c.in_ok-reached.reached (rule_said path table reaches) c.in_ok-reached.was c.reached_formula.ensures in
+    let provides = ok-is c.provider_formula.result c.in_ok-provides.provides (plain_said table (fact (provides_as asked name)))
+    c.in_ok-provides.was c.provider_formula.ensures in
+    let reached = ok-is c.reached_formula.result c.in_ok-reached.reached (rule_said path table reaches) c.in_ok-reached.was
+    c.reached_formula.ensures in
     ok-same c.both.result (both_statements c.in_ok-provides.provides c.in_ok-reached.reached)
     (rule_said path table (both_of (fact (provides_as asked name)) reaches))
     (both-same _ _ _ _ provides reached) c.both.ensures

@@ -18,7 +18,8 @@ returns c =
     let part = c.args.part.now in
     let asked = c.args.asked.now in
     let name = c.args.name.now in
-    let suits = ok-is c.suits_formula.result c.in_ok-suits.suits (plain_said table (suits_rule world part asked name)) c.in_ok-suits.was c.suits_formula.ensures
+    let suits = ok-is c.suits_formula.result c.in_ok-suits.suits (plain_said table (suits_rule world part asked name)) c.in_ok-suits.was
+    c.suits_formula.ensures
     ∙ sym (suits-agree path table world part asked name) in
     let leads = c.path-path.ensures ∙ ap (λ (n : Text). path from n) c.as_str.ensures in
     ok-same c.both.result (both_statements c.in_ok-suits.suits c.path-path.result)

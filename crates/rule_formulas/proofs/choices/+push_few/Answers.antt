@@ -2,7 +2,7 @@ use Rattle.std.proofs.Common.{◌≡◌, [], ◌∷◌, ◌++◌, ◌-◌, sym, 
 use Rattle.std.proofs.lemmas.List.{take_rest}
 use Rattle.clause_formulas.specs.Rules.{Proposition}
 use Rattle.graph_formulas.specs.Facts.{GraphWord}
-use Rattle.graph_formulas.specs.Lists.{half_count, halves_rule, few_rules}
+use Rattle.graph_formulas.specs.Lists.{half_length, halves_rule, few_rules}
 use Rattle.graph_formulas.specs.Parts.{holds_rule}
 use Rattle.graph_formulas.specs.Words.{names_for, rule_said}
 use Rattle.rule_formulas.specs.Paths.{path_by}
@@ -35,14 +35,15 @@ returns t c =
     let xs = c.args.specs.now in
     let pushed : c.push.new.self.items ≡ c.args.parts.now.items ++ c.in_ok-halves_formula.field-0 ∷ [] = c.in_ok-push.ensures.items in
     let halves : c.in_ok-halves_formula.field-0 ≡ rule_said path table
-    (halves_rule holds (take (half_count xs) xs) (take (length xs - half_count xs) (drop (half_count xs) xs))) =
+    (halves_rule holds (take (half_length xs) xs) (take (length xs - half_length xs) (drop (half_length xs) xs))) =
     c.in_ok-halves_formula.ensures in
     let front : c.push_few.new.parts.items ≡ c.push.new.self.items
-    ++ map (rule_said path table) (few_rules (c.args.times - 1) holds (take (half_count xs) xs)) = c.in_ok-push_few.ensures in
+    ++ map (rule_said path table) (few_rules (c.args.times - 1) holds (take (half_length xs) xs)) = c.in_ok-push_few.ensures in
     let back : c.push_few-2.new.parts.items ≡ c.push_few.new.parts.items
-    ++ map (rule_said path table) (few_rules (c.args.times - 1) holds (take (length xs - half_count xs) (drop (half_count xs) xs))) =
+    ++ map (rule_said path table) (few_rules (c.args.times - 1) holds (take (length xs - half_length xs) (drop (half_length xs) xs))) =
     c.in_ok-push_few-2.ensures in
-    few-joined path table holds c.args.parts.now.items c.push.new.self.items c.push_few.new.parts.items c.push_few-2.new.parts.items c.args.times xs
+    few-joined path table holds c.args.parts.now.items c.push.new.self.items c.push_few.new.parts.items c.push_few-2.new.parts.items
+    c.args.times xs
     c.in_ok-halves_formula.field-0 c.if-times-eq0.false c.if-specs-le-SHORT.false pushed
-    (rw (take_rest xs (half_count xs)) at halves) front
-    (rw (take_rest xs (half_count xs)) at back)
+    (rw (take_rest xs (half_length xs)) at halves) front
+    (rw (take_rest xs (half_length xs)) at back)

@@ -14,8 +14,10 @@ returns c =
     let table = c.args.table.now in
     let path = path_by table c.args.paths.now in
     let holds = holds_rule c.args.world.now (names_for table) c.args.name.now in
-    let first = ok-is c.holds_formula.result c.in_ok-first.first (rule_said path table (holds c.args.spec.now)) c.in_ok-first.was c.holds_formula.ensures in
-    let others = ok-is c.some_formula.result c.in_ok-others.others (rule_said path table (some holds c.args.rest.now)) c.in_ok-others.was c.some_formula.ensures in
+    let first = ok-is c.holds_formula.result c.in_ok-first.first (rule_said path table (holds c.args.spec.now)) c.in_ok-first.was
+    c.holds_formula.ensures in
+    let others = ok-is c.some_formula.result c.in_ok-others.others (rule_said path table (some holds c.args.rest.now)) c.in_ok-others.was
+    c.some_formula.ensures in
     ok-same c.either.result (any_statement (c.negated.result ∷ c.negated-2.result ∷ []))
     (apart_said path table holds c.args.spec.now c.args.rest.now)
     (either-same _ _ _ _ (c.negated.ensures ∙ ap opposite first) (c.negated-2.ensures ∙ ap opposite others)) c.either.ensures

@@ -13,8 +13,10 @@ returns c =
     let table = c.args.table.now in
     let path = path_by table c.args.paths.now in
     let holds = holds_rule c.args.world.now (names_for table) c.args.name.now in
-    let first = ok-is c.some_formula.result c.in_ok-first.first (rule_said path table (some holds c.args.front.now)) c.in_ok-first.was c.some_formula.ensures in
-    let second = ok-is c.some_formula-2.result c.in_ok-second.second (rule_said path table (some holds c.args.back.now)) c.in_ok-second.was c.some_formula-2.ensures in
+    let first = ok-is c.some_formula.result c.in_ok-first.first (rule_said path table (some holds c.args.front.now)) c.in_ok-first.was
+    c.some_formula.ensures in
+    let second = ok-is c.some_formula-2.result c.in_ok-second.second (rule_said path table (some holds c.args.back.now)) c.in_ok-second.was
+    c.some_formula-2.ensures in
     ok-same c.either.result (any_statement (c.negated.result ∷ c.negated-2.result ∷ []))
     (rule_said path table (halves_rule holds c.args.front.now c.args.back.now))
     (either-same _ _ _ _ (c.negated.ensures ∙ ap opposite first) (c.negated-2.ensures ∙ ap opposite second)) c.either.ensures

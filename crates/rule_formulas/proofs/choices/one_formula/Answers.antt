@@ -15,7 +15,8 @@ returns c =
     let path = path_by table c.args.paths.now in
     let holds = holds_rule c.args.world.now (names_for table) c.args.name.now in
     let rules = few_rules (length c.args.specs.now / 8) holds c.args.specs.now in
-    let some_said = ok-is c.some_formula.result c.in_ok-some.some (rule_said path table (some holds c.args.specs.now)) c.in_ok-some.was c.some_formula.ensures in
+    let some_said = ok-is c.some_formula.result c.in_ok-some.some (rule_said path table (some holds c.args.specs.now)) c.in_ok-some.was
+    c.some_formula.ensures in
     let few_said = ok-is c.few_formula.result c.in_ok-few.few (all_statements (map (rule_said path table) rules)) c.in_ok-few.was
     c.few_formula.ensures in
     ok-same c.both.result (both_statements c.in_ok-some.some c.in_ok-few.few) (rule_said path table (just_one holds c.args.specs.now))

@@ -7,5 +7,7 @@ use Rattle.rule_formulas.proofs.choices.push_apart.Given as goal
 
 abbrev pub invariant-loop-i : goal.invariant-loop-i
 invariant-loop-i l =
-    l.parts.items ++ map (rule_said (path_by l.fn.table l.fn.paths) l.fn.table) (apart_rules (holds_rule l.fn.world (names_for l.fn.table) l.fn.name) (drop l.i l.specs))
-    ≡ l.fn.parts.items ++ map (rule_said (path_by l.fn.table l.fn.paths) l.fn.table) (apart_rules (holds_rule l.fn.world (names_for l.fn.table) l.fn.name) l.fn.specs)
+    l.parts.items ++ map (rule_said (path_by l.fn.table l.fn.paths) l.fn.table)
+    (apart_rules (holds_rule l.fn.world (names_for l.fn.table) l.fn.name) (drop l.i l.specs))
+    ≡ l.fn.parts.items ++ map (rule_said (path_by l.fn.table l.fn.paths) l.fn.table)
+    (apart_rules (holds_rule l.fn.world (names_for l.fn.table) l.fn.name) l.fn.specs)

@@ -18,7 +18,9 @@ returns-in-Some g c =
     let path = path_by table c.args.paths.now in
     let condition = g.C.MetConditions.condition_of c.args.conditions.now in
     let name = c.args.name.now in
-    ok-same c.requirement_formula.result (term_formula path condition table (requirement_rule problem (names_for table) name c.in-Some.row.now))
+    ok-same c.requirement_formula.result (term_formula path condition table
+    (requirement_rule problem (names_for table) name c.in-Some.row.now))
     (required_said path condition problem table name (slice_get (required_at problem name) c.args.place))
-    (sym (ap (λ (o : Option RequireRow). required_said path condition problem table name o) (sym c.row_at.ensures ∙ ap (λ r. option_copied r) c.in-Some.is)))
+    (sym (ap (λ (o : Option RequireRow). required_said path condition problem table name o) (sym c.row_at.ensures
+    ∙ ap (λ r. option_copied r) c.in-Some.is)))
     c.requirement_formula.ensures

@@ -19,6 +19,8 @@ returns-in-Some c =
     let said = λ (w : World) (n : Text). rule_said path table (holds_rule w (names_for table) n spec) in
     let root = λ (o : Option Text). rule_said path table
     (one_keeps o (λ (n : Text). holds_rule (world_of problem) (names_for table) n spec)) in
-    ok-same c.holds_formula.result (said c.world-world.result c.as_str.result.now) (rule_said path table (root_rule problem (names_for table) spec))
-    (ap (λ (w : World). said w c.as_str.result.now) c.world-world.ensures ∙ ap (said (world_of problem)) c.as_str.ensures ∙ sym (ap root c.in-Some.is))
+    ok-same c.holds_formula.result (said c.world-world.result c.as_str.result.now)
+    (rule_said path table (root_rule problem (names_for table) spec))
+    (ap (λ (w : World). said w c.as_str.result.now) c.world-world.ensures ∙ ap (said (world_of problem)) c.as_str.ensures
+    ∙ sym (ap root c.in-Some.is))
     c.holds_formula.ensures

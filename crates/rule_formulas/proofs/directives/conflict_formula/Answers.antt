@@ -17,5 +17,6 @@ returns g c =
     let row = c.args.row.now in
     let said = λ (w : World). rule_said path table (holds_rule w (names_for table) name row.spec) in
     let met = ok-is c.met.result c.in_ok-met.met (condition name row.when) c.in_ok-met.was c.met.ensures in
-    let holds = ok-is c.holds_formula.result c.in_ok-holds.holds (said c.world-world.result) c.in_ok-holds.was c.holds_formula.ensures ∙ ap said c.world-world.ensures in
+    let holds = ok-is c.holds_formula.result c.in_ok-holds.holds (said c.world-world.result) c.in_ok-holds.was c.holds_formula.ensures
+    ∙ ap said c.world-world.ensures in
     c.negated.ensures ∙ ap opposite (c.in_ok-both.ensures ∙ both-same _ _ _ _ met holds)

@@ -28,5 +28,6 @@ returns g c =
     c.in_ok-constraint.was c.constraint_formula.ensures
     ∙ implies-same _ _ _ _ again (sym (suits_asked-agree path table problem (names_for table) row)) in
     ok-same c.both.result (both_statements c.in_ok-edge.edge c.in_ok-constraint.constraint)
-    (term_formula path condition table (both_of (edge_rule problem (names_for table) name row) (constraint_rule problem (names_for table) name row)))
+    (term_formula path condition table (both_of (edge_rule problem (names_for table) name row)
+    (constraint_rule problem (names_for table) name row)))
     (both-same _ _ _ _ edge constraint) c.both.ensures

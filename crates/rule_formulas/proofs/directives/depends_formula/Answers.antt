@@ -21,8 +21,10 @@ returns g c =
     let condition = g.C.MetConditions.condition_of c.args.conditions.now in
     let name = c.args.name.now in
     let p = λ (row : DependRow). row.number == c.args.number in
-    let rule = λ (row : DependRow). both_of (edge_rule problem (names_for table) name row) (constraint_rule problem (names_for table) name row) in
-    let formula = λ (row : DependRow). term_formula path condition table (both_of (edge_rule problem (names_for table) name row) (constraint_rule problem (names_for table) name row)) in
+    let rule = λ (row : DependRow). both_of (edge_rule problem (names_for table) name row)
+    (constraint_rule problem (names_for table) name row) in
+    let formula = λ (row : DependRow). term_formula path condition table
+    (both_of (edge_rule problem (names_for table) name row) (constraint_rule problem (names_for table) name row)) in
     ok-same c.each_where.result (all_statements (map formula (filter p c.depends_at.result.now)))
     (term_formula path condition table (each_keeps rule (filter p (depends_at problem name))))
     (ap (λ (l : List DependRow). all_statements (map formula (filter p l))) c.depends_at.ensures

@@ -19,7 +19,8 @@ returns g c =
     let name = c.args.name.now in
     let row = c.args.row.now in
     let met = ok-is c.met.result c.in_ok-met.met (condition name row.when) c.in_ok-met.was c.met.ensures in
-    let choice = ok-is c.choice_formula.result c.in_ok-choice.choice (choice_said path table (world_of problem) name row) c.in_ok-choice.was c.choice_formula.ensures
+    let choice = ok-is c.choice_formula.result c.in_ok-choice.choice (choice_said path table (world_of problem) name row) c.in_ok-choice.was
+    c.choice_formula.ensures
     ∙ choice-known path condition table problem name row in
     ok-same c.implies.result (implication_of c.in_ok-met.met c.in_ok-choice.choice)
     (term_formula path condition table (requirement_rule problem (names_for table) name row))

@@ -1,14 +1,11 @@
-use Rattle.std.proofs.Common.{rules, sym, ap, ◌∙◌, ◌&&◌, map, filter, List}
-use Rattle.clause_formulas.specs.Statements.{any_statement}
+use Rattle.std.proofs.Common.{rules, Option}
+use Rattle.graph_core.specs.Graphs.{Text}
 use Rattle.recipe_data.specs.declared.recipe.DependRow.{DependRow}
-use Rattle.problem.specs.Problems.{depends_at}
-use Rattle.graph_formulas.specs.Lists.{some}
+use Rattle.literal_table.specs.Choices.{Choices}
 use Rattle.graph_formulas.specs.Words.{names_for}
-use Rattle.graph_formulas.specs.Terms.{term_said}
-use Rattle.graph_formulas.specs.Edges.{asks_rule, may_ask}
-use Rattle.word_formulas.specs.Builders.{no_paths}
-use Rattle.word_formulas.proofs.Steps.{ok-same, some-said}
-use Rattle.rule_formulas.specs.Terms.{plain_term, has_of}
+use Rattle.graph_formulas.specs.Edges.{asks_rule}
+use Rattle.rule_formulas.specs.Asking.{may_name_as}
+use Rattle.rule_formulas.specs.Terms.{plain_term}
 use Rattle.rule_formulas.proofs.extra_edges.asking_formula.Goals as goal
 
 pub returns : goal.returns
@@ -18,12 +15,7 @@ returns g c =
     let condition = g.C.MetConditions.condition_of c.args.conditions.now in
     let name = c.args.name.now in
     let child = c.args.child.now in
-    let kind = c.args.kind in
-    let p = λ (row : DependRow). has_of kind row.kinds && may_ask problem (names_for table) child row in
-    let rule = λ (row : DependRow). asks_rule problem (names_for table) name child row in
-    let formula = λ (row : DependRow). plain_term table condition (asks_rule problem (names_for table) name child row) in
-    ok-same c.some_where.result (any_statement (map formula (filter p c.depends_at.result.now)))
-    (plain_term table condition (some rule (filter p (depends_at problem name))))
-    (ap (λ (l : List DependRow). any_statement (map formula (filter p l))) c.depends_at.ensures
-    ∙ sym (some-said (term_said no_paths condition table) rule (filter p (depends_at problem name))))
-    (c.some_where.ensures p formula (λ x b says. search rules) (λ x r says. search rules))
+    let p = λ (asking : DependRow × Option (Choices Text)). may_name_as c.args.kind child asking in
+    let formula = λ (asking : DependRow × Option (Choices Text)).
+    plain_term table condition (asks_rule problem (names_for table) name child asking.0) in
+    c.some_where.ensures p formula (λ x b says. search rules) (λ x r says. search rules)

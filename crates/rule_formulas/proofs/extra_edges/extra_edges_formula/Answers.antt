@@ -1,18 +1,18 @@
-use Rattle.std.proofs.Common.{rules, sym, ap, ◌∙◌, map, filter, List}
-use Rattle.std.specs.Str.{bytes_eq}
-use Rattle.clause_formulas.specs.Statements.{all_statements}
+use Rattle.std.proofs.Common.{sym, ap, ◌∙◌, map, List, Option}
+use Rattle.clause_formulas.specs.Statements.{Statement, all_statements}
 use Rattle.graph_core.specs.Graphs.{Text}
-use Rattle.literal_table.specs.declared.block.EdgeLits.{EdgeLits}
-use Rattle.graph_formulas.specs.Lists.{each_keeps}
-use Rattle.graph_formulas.specs.Words.{names_for}
-use Rattle.graph_formulas.specs.Terms.{term_said}
-use Rattle.graph_formulas.specs.Edges.{extra_edge_rule}
-use Rattle.graph_formulas.specs.Laws.{virtuals_on}
+use Rattle.recipe_data.specs.declared.recipe.DependRow.{DependRow}
+use Rattle.literal_table.specs.Choices.{Choices}
 use Rattle.literal_table.specs.Tables.{children_of}
+use Rattle.graph_formulas.specs.Edges.{extra_edge_rule, extra_edges_rule}
+use Rattle.graph_formulas.specs.Laws.{virtuals_on}
+use Rattle.graph_formulas.specs.Terms.{term_said}
+use Rattle.graph_formulas.specs.Words.{names_for}
 use Rattle.word_formulas.specs.Builders.{no_paths}
 use Rattle.word_formulas.proofs.Steps.{ok-same, each-said}
+use Rattle.rule_formulas.specs.Asking.{extra_edge_said}
 use Rattle.rule_formulas.specs.Terms.{plain_term}
-use Rattle.rule_formulas.proofs.Lists.{over-mapped}
+use Rattle.rule_formulas.proofs.Asking.{extra_edge-same}
 use Rattle.rule_formulas.proofs.extra_edges.extra_edges_formula.Goals as goal
 
 pub returns : goal.returns
@@ -21,14 +21,13 @@ returns g c =
     let problem = c.args.problem.now in
     let condition = g.C.MetConditions.condition_of c.args.conditions.now in
     let name = c.args.name.now in
-    let p = λ (e : EdgeLits). bytes_eq e.parent name in
-    let child = λ (e : EdgeLits). e.child in
+    let children = children_of table name in
     let rule = λ (n : Text). extra_edge_rule problem (names_for table) (virtuals_on table name n) name n in
-    let said = λ (n : Text). plain_term table condition (extra_edge_rule problem (names_for table) (virtuals_on table name n) name n) in
-    let formula = λ (e : EdgeLits). plain_term table condition (extra_edge_rule problem (names_for table) (virtuals_on table name e.child) name e.child) in
-    ok-same c.each_where.result (all_statements (map formula (filter p c.edges.result.now)))
-    (plain_term table condition (each_keeps rule (children_of table name)))
-    (ap (λ (l : List EdgeLits). all_statements (map formula (filter p l))) c.edges.ensures.edges
-    ∙ ap all_statements (over-mapped said child (filter p table.edges))
-    ∙ sym (each-said (term_said no_paths condition table) rule (children_of table name)))
-    (c.each_where.ensures p formula (λ x b says. search rules) (λ x r says. search rules))
+    let said = λ (rows : List (DependRow × Option (Choices Text))).
+    all_statements (map (extra_edge_said problem table condition rows name) children) in
+    ok-same c.edges_formula.result (said c.as_slice.result.now)
+    (plain_term table condition (extra_edges_rule problem (names_for table) (virtuals_on table name) children name))
+    (ap said (c.as_slice.ensures.value ∙ c.in_ok-rows.ensures)
+    ∙ ap (λ (of : Text → Statement). all_statements (map of children)) (λ i n. extra_edge-same problem table condition name n i)
+    ∙ sym (each-said (term_said no_paths condition table) rule children))
+    c.edges_formula.ensures

@@ -1,16 +1,11 @@
-use Rattle.std.proofs.Common.{ap, ◌∙◌, ◌&&◌, filter}
+use Rattle.std.proofs.Common.{ap, ◌∙◌}
 use Rattle.clause_formulas.specs.Statements.{implication_of}
 use Rattle.clause_formulas.specs.Rules.{fact}
-use Rattle.recipe_data.specs.declared.recipe.DependRow.{DependRow}
 use Rattle.graph_core.specs.declared.node.Kinds.{Kinds}
-use Rattle.problem.specs.Problems.{depends_at}
 use Rattle.graph_formulas.specs.Facts.{has_edge}
-use Rattle.graph_formulas.specs.Lists.{some}
-use Rattle.graph_formulas.specs.Words.{names_for}
-use Rattle.graph_formulas.specs.Edges.{asks_rule, may_ask, kind_rule}
 use Rattle.word_formulas.specs.Builders.{plain_said}
 use Rattle.word_formulas.proofs.Steps.{ok-same, ok-is, implies-same}
-use Rattle.rule_formulas.specs.Terms.{plain_term, kinds_of, has_of}
+use Rattle.rule_formulas.specs.Asking.{asking_said, kind_said}
 use Rattle.rule_formulas.proofs.extra_edges.kind_formula.Goals as goal
 
 pub returns : goal.returns
@@ -18,14 +13,15 @@ returns g c =
     let table = c.args.table.now in
     let problem = c.args.problem.now in
     let condition = g.C.MetConditions.condition_of c.args.conditions.now in
+    let rows = c.args.rows.now in
     let name = c.args.name.now in
     let child = c.args.child.now in
     let kind = c.args.kind in
     let there = λ (kinds : Kinds). plain_said table (fact (has_edge name child kinds)) in
-    let asking = plain_term table condition (some (asks_rule problem (names_for table) name child)
-    (filter (λ (row : DependRow). has_of kind row.kinds && may_ask problem (names_for table) child row) (depends_at problem name))) in
-    let edge = ok-is c.has_edge.result c.in_ok-edge.edge (there c.kinds_of-kinds.result) c.in_ok-edge.was c.has_edge.ensures ∙ ap there c.kinds_of-kinds.ensures in
-    let asked = ok-is c.asking_formula.result c.in_ok-asked.asked asking c.in_ok-asked.was c.asking_formula.ensures in
+    let edge = ok-is c.has_edge.result c.in_ok-edge.edge (there c.kinds_of-kinds.result) c.in_ok-edge.was c.has_edge.ensures
+    ∙ ap there c.kinds_of-kinds.ensures in
+    let asked = ok-is c.asking_formula.result c.in_ok-asked.asked (asking_said problem table condition rows kind name child)
+    c.in_ok-asked.was c.asking_formula.ensures in
     ok-same c.implies.result (implication_of c.in_ok-edge.edge c.in_ok-asked.asked)
-    (plain_term table condition (kind_rule problem (names_for table) (kinds_of kind) (has_of kind) name child))
+    (kind_said problem table condition rows kind name child)
     (implies-same _ _ _ _ edge asked) c.implies.ensures

@@ -24,9 +24,11 @@ returns g c =
     let same = c.as_str-virtual_name.ensures in
     let names = λ (v : Text). plain_said table (fact (has_virtual name child v)) in
     let provider = λ (v : Text). plain_said table (fact (provides_as v child)) in
-    let met = λ (v : Text). plain_term table condition (some (λ row. met_rule name row.when) (filter (names_virtual problem v) (depends_at problem name))) in
+    let met = λ (v : Text). plain_term table condition
+    (some (λ row. met_rule name row.when) (filter (names_virtual problem v) (depends_at problem name))) in
     let named = ok-is c.has_virtual.result c.in_ok-named.named (names text) c.in_ok-named.was c.has_virtual.ensures ∙ ap names same in
-    let provides = ok-is c.provides_as.result c.in_ok-provides.provides (provider text) c.in_ok-provides.was c.provides_as.ensures ∙ ap provider same in
+    let provides = ok-is c.provides_as.result c.in_ok-provides.provides (provider text) c.in_ok-provides.was c.provides_as.ensures
+    ∙ ap provider same in
     let rows = ok-is c.rows_formula.result c.in_ok-rows.rows (met text) c.in_ok-rows.was (c.rows_formula.ensures table) ∙ ap met same in
     let asked = c.in_ok-asked.ensures ∙ both-same _ _ _ _ provides rows in
     ok-same c.implies.result (implication_of c.in_ok-named.named c.in_ok-asked.asked)

@@ -19,9 +19,11 @@ returns c =
     let name = c.args.name.now in
     let spec = c.args.spec.now in
     let said = λ (parts : List Part). rule_said path table (each_keeps (below_rule world (names_for table) name) parts) in
-    let meets = ok-is c.meets_formula.result c.in_ok-meets.meets (plain_said table (meets_rule world name spec.top)) c.in_ok-meets.was c.meets_formula.ensures
+    let meets = ok-is c.meets_formula.result c.in_ok-meets.meets (plain_said table (meets_rule world name spec.top)) c.in_ok-meets.was
+    c.meets_formula.ensures
     ∙ sym (meets-agree path table world name spec.top) in
-    let below = ok-is c.parts_formula.result c.in_ok-below.below (said c.as_slice.result.now) c.in_ok-below.was c.parts_formula.ensures ∙ ap said c.as_slice.ensures in
+    let below = ok-is c.parts_formula.result c.in_ok-below.below (said c.as_slice.result.now) c.in_ok-below.was c.parts_formula.ensures
+    ∙ ap said c.as_slice.ensures in
     ok-same c.both.result (both_statements c.in_ok-meets.meets c.in_ok-below.below)
     (rule_said path table (holds_rule world (names_for table) name spec))
     (both-same _ _ _ _ meets below) c.both.ensures

@@ -21,12 +21,14 @@ returns c =
     let name = c.as_str-name.result.now in
     let asked = c.as_str-asked.result.now in
     let said = λ (w : World) (n v : Text). plain_said table (row_rule w n v None row) in
-    let by_row = ok-is c.provide_row_formula.result c.in_ok-by_row.by_row (said c.world-world.result name asked) c.in_ok-by_row.was c.provide_row_formula.ensures
+    let by_row = ok-is c.provide_row_formula.result c.in_ok-by_row.by_row (said c.world-world.result name asked) c.in_ok-by_row.was
+    c.provide_row_formula.ensures
     ∙ ap (λ (w : World). said w name asked) c.world-world.ensures
     ∙ ap (λ (n : Text). said (world_of problem) n asked) c.as_str-name.ensures
     ∙ ap (said (world_of problem) provider) c.as_str-asked.ensures in
     let together = ok-is c.each_name_formula.result c.in_ok-together.together
-    (plain_term table no_conditions (each_name_rule problem (names_for table) provider row)) c.in_ok-together.was c.each_name_formula.ensures in
+    (plain_term table no_conditions (each_name_rule problem (names_for table) provider row)) c.in_ok-together.was
+    c.each_name_formula.ensures in
     ok-same c.implies.result (implication_of c.in_ok-by_row.by_row c.in_ok-together.together)
     (plain_term table no_conditions (by_row_rule problem (names_for table) (virtual_name, provider) row))
     (implies-same _ _ _ _ by_row together) c.implies.ensures

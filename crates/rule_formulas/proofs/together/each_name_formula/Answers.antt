@@ -21,6 +21,7 @@ returns c =
     let test = λ (other : ProvideRow). other.number == c.args.row.now.number in
     ok-same c.each_where.result (all_statements (map formula (filter test c.provides_at.result.now)))
     (plain_term table no_conditions (each_name_rule problem (names_for table) name c.args.row.now))
-    (ap (λ (l : List ProvideRow). all_statements (map formula (filter test l))) (c.provides_at.ensures ∙ ap (provides_at problem) c.as_str.ensures)
+    (ap (λ (l : List ProvideRow). all_statements (map formula (filter test l))) (c.provides_at.ensures
+    ∙ ap (provides_at problem) c.as_str.ensures)
     ∙ sym (each-said (term_said no_paths no_conditions table) rule (filter test (provides_at problem name))))
     (c.each_where.ensures test formula (λ x b says. search rules) (λ x r says. search rules))

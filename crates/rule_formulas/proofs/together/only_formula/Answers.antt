@@ -20,7 +20,8 @@ returns c =
     let provides = ok-is c.provider_formula.result c.in_ok-provides.provides (plain_said table (fact (provides_as virtual_name other)))
     c.in_ok-provides.was c.provider_formula.ensures in
     let same = c.given-same.ensures
-    ∙ ap given_said (c.eq.ensures ∙ ap (λ (a : Text). bytes_eq a c.as_str-2.result.now) c.as_str.ensures ∙ ap (bytes_eq other) c.as_str-2.ensures)
+    ∙ ap given_said (c.eq.ensures ∙ ap (λ (a : Text). bytes_eq a c.as_str-2.result.now) c.as_str.ensures
+    ∙ ap (bytes_eq other) c.as_str-2.ensures)
     ∙ given-said (word_said no_paths table) (bytes_eq other name) in
     ok-same c.implies.result (implication_of c.in_ok-provides.provides c.given-same.result)
     (plain_term table no_conditions

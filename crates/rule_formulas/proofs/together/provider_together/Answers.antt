@@ -12,7 +12,8 @@ use Rattle.rule_formulas.proofs.together.provider_together.Goals as goal
 
 -- where the settings ask for it
 asked : (table : Table) (problem : Problem) (p : Text × Text) → problem.settings.provided_together ≡ true
-    → plain_term table no_conditions (each_keeps (by_row_rule problem (names_for table) p) (filter (λ row. bytes_eq row.name p.0) (provides_at problem p.1)))
+    → plain_term table no_conditions (each_keeps (by_row_rule problem (names_for table) p)
+    (filter (λ row. bytes_eq row.name p.0) (provides_at problem p.1)))
     ≡ plain_term table no_conditions (together_rule problem (names_for table) p)
 asked table problem p is = rw is refl
 
@@ -26,6 +27,8 @@ returns-then-settings c =
     let problem = c.args.problem.now in
     let p : Text × Text = (c.args.virtual_name.now, c.args.provider.now) in
     ok-same c.rows_together.result
-    (plain_term table no_conditions (each_keeps (by_row_rule problem (names_for table) p) (filter (λ row. bytes_eq row.name p.0) (provides_at problem p.1))))
+    (plain_term table no_conditions (each_keeps (by_row_rule problem (names_for table) p)
+    (filter (λ row. bytes_eq row.name p.0) (provides_at problem p.1))))
     (plain_term table no_conditions (together_rule problem (names_for table) p))
-    (asked table problem p (told c.settings.result.now problem.settings c.settings.ensures (λ s. s.provided_together) c.if-settings.true)) c.rows_together.ensures
+    (asked table problem p (told c.settings.result.now problem.settings c.settings.ensures (λ s. s.provided_together) c.if-settings.true))
+    c.rows_together.ensures

@@ -23,6 +23,7 @@ returns c =
     let test = λ (row : ProvideRow). bytes_eq row.name p.0 in
     ok-same c.each_where.result (all_statements (map formula (filter test c.provides_at.result.now)))
     (plain_term table no_conditions (each_keeps rule (filter test (provides_at problem p.1))))
-    (ap (λ (l : List ProvideRow). all_statements (map formula (filter test l))) (c.provides_at.ensures ∙ ap (provides_at problem) c.as_str.ensures)
+    (ap (λ (l : List ProvideRow). all_statements (map formula (filter test l))) (c.provides_at.ensures
+    ∙ ap (provides_at problem) c.as_str.ensures)
     ∙ sym (each-said (term_said no_paths no_conditions table) rule (filter test (provides_at problem p.1))))
     (c.each_where.ensures test formula (λ x b says. search rules) (λ x r says. search rules))

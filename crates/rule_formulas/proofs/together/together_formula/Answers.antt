@@ -20,7 +20,8 @@ returns c =
     let table = c.args.table.now in
     let problem = c.args.problem.now in
     let virtual_name = c.args.virtual_name.now in
-    let rule = λ (n : Text). if_so (known_rule (fact (provides_as virtual_name n))) (together_rule problem (names_for table) (virtual_name, n)) in
+    let rule = λ (n : Text). if_so (known_rule (fact (provides_as virtual_name n)))
+    (together_rule problem (names_for table) (virtual_name, n)) in
     let said = λ (n : Text). plain_term table no_conditions
     (if_so (known_rule (fact (provides_as virtual_name n))) (together_rule problem (names_for table) (virtual_name, n))) in
     let formula = λ (choice : Text × Lit). plain_term table no_conditions

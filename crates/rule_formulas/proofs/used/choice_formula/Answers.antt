@@ -15,7 +15,8 @@ returns c =
     let table = c.args.table.now in
     let virtual_name = c.args.virtual_name.now in
     let package_name = c.args.choice.now.0 in
-    let provides = ok-is c.provider_formula.result c.in_ok-provides.provides (plain_said table (fact (provides_as virtual_name package_name))) c.in_ok-provides.was c.provider_formula.ensures in
+    let provides = ok-is c.provider_formula.result c.in_ok-provides.provides
+    (plain_said table (fact (provides_as virtual_name package_name))) c.in_ok-provides.was c.provider_formula.ensures in
     let used = ok-is c.used_by_some.result c.in_ok-used.used
     (plain_term table no_conditions (used_rule (may_use table) (table_names table) (virtual_name, package_name))) c.in_ok-used.was
     c.used_by_some.ensures in

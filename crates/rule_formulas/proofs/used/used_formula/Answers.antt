@@ -24,7 +24,8 @@ returns c =
     let said = λ (n : Text). plain_term table no_conditions
     (if_so (known_rule (fact (provides_as virtual_name n))) (used_rule (may_use table) (table_names table) (virtual_name, n))) in
     let formula = λ (choice : Text × Lit). plain_term table no_conditions
-    (if_so (known_rule (fact (provides_as virtual_name choice.0))) (used_rule (may_use table) (table_names table) (virtual_name, choice.0))) in
+    (if_so (known_rule (fact (provides_as virtual_name choice.0)))
+    (used_rule (may_use table) (table_names table) (virtual_name, choice.0))) in
     let first = λ (choice : Text × Lit). choice.0 in
     ok-same c.each.result (all_statements (map formula c.packages.result.now))
     (plain_term table no_conditions (of_provider (names_for table) (used_rule (may_use table) (table_names table)) virtual_name))

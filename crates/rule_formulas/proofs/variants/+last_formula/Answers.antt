@@ -39,7 +39,8 @@ returns g t c =
     let second : c.split_at.result.1.now ≡ drop (length rows / 2) rows = c.split_at.ensures.back in
     let front = c.in_ok-front.front in
     let back = c.in_ok-back.back in
-    ok-same c.join_halves.result (any_statement (both_statements (opposite (met_said condition name c.split_at.result.1.now)) front ∷ back ∷ []))
+    ok-same c.join_halves.result (any_statement
+    (both_statements (opposite (met_said condition name c.split_at.result.1.now)) front ∷ back ∷ []))
     (last_said table condition name variant c.args.times rows)
     (ap (λ (part : Definitions). any_statement (both_statements (opposite (met_said condition name part)) front ∷ back ∷ [])) second
     ∙ halves-said table condition name variant c.args.times rows front back c.if-times-eq0.false c.if-rows-le-SHORT.false

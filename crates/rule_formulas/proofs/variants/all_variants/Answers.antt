@@ -24,7 +24,8 @@ returns g c =
     let formula = λ (v : Text × Choices Text). plain_term table condition (variant_rule at.0 at.1 v.0) in
     ok-same c.each.result (all_statements (map formula c.args.variants.now))
     (plain_term table condition (variants_rule problem (map first c.args.variants.now) name))
-    (ap (λ (d : Problem × Text). all_statements (map (λ (v : Text × Choices Text). plain_term table condition (variant_rule d.0 d.1 v.0)) c.args.variants.now))
+    (ap (λ (d : Problem × Text). all_statements
+    (map (λ (v : Text × Choices Text). plain_term table condition (variant_rule d.0 d.1 v.0)) c.args.variants.now))
     c.in_ok-definitions.ensures
     ∙ ap all_statements (over-mapped said first c.args.variants.now)
     ∙ sym (each-said (term_said no_paths condition table) rule (map first c.args.variants.now)))

@@ -5,7 +5,8 @@ use Rattle.run_task.proofs.certificate.check_text.Goals as goal
 pub returns-in-Ok-true-clause-read : goal.returns-in-Ok-true-clause-read
 returns-in-Ok-true-clause-read g c = λ s after.
     text_said c.args.path.now s c.args.checker.now c.take_all.new.checker after _ c.verdict.result
-    (all_by _ c.args.path.now c.args.checker.now c.take_all.new.checker _ true c.in-Ok-true.field-0-test c.in-Ok-true.ensures.taken) c.verdict.ensures.read
+    (all_by _ c.args.path.now c.args.checker.now c.take_all.new.checker _ true c.in-Ok-true.field-0-test c.in-Ok-true.ensures.taken)
+    c.verdict.ensures.read
 
 pub returns-in-Ok-false-clause-read : goal.returns-in-Ok-false-clause-read
 returns-in-Ok-false-clause-read g c = λ s after.

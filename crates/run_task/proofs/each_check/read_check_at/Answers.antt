@@ -19,9 +19,10 @@ returns-clause-read g c =
     c.in-Err.ensures.read
 
 pub returns-clause-path : goal.returns-clause-path
-returns-clause-path g c = λ count within.
+returns-clause-path g c =
     stop_path c.args.dir.now c.as_str.result.now c.as_str-2.result.now c.args.root (c.as_str.ensures.value ∙ c.in_ok-lock.ensures)
-    (c.as_str-2.ensures.value ∙ c.in_ok-cert.ensures) count c.in-Err.stop c.in_root.result c.in_root.ensures within c.in-Err.ensures.path
+    (c.as_str-2.ensures.value ∙ c.in_ok-cert.ensures) _ c.args.one.now.problem c.in-Err.stop c.in_root.result c.in_root.ensures
+    c.in-Err.ensures.path
 
 pub returns-clause-only_reads : goal.returns-clause-only_reads
 returns-clause-only_reads g c =

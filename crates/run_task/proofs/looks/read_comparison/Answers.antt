@@ -1,4 +1,5 @@
-use Rattle.run_task.proofs.Stops.{compares, compared_stop}
+use Rattle.run_task.proofs.Stops.{compared_stop}
+use Rattle.run_task.proofs.SeenTasks.{compares}
 use Rattle.run_task.proofs.looks.read_comparison.Goals as goal
 
 pub returns-in-Ok-clause-seen : goal.returns-in-Ok-clause-seen

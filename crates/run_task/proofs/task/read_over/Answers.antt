@@ -1,7 +1,7 @@
 use Rattle.std.proofs.Common.{◌≡◌, true, false, ap, sym, ◌∙◌}
 use Rattle.run_input.specs.Words.{Command}
 use Rattle.run_task.specs.Tasks.{is_search}
-use Rattle.run_task.proofs.Stops.{found_work, over_by, seen_posed, seen_search, specs_by}
+use Rattle.run_task.proofs.SeenTasks.{found_work, over_by, seen_posed, seen_search, specs_by}
 use Rattle.run_task.proofs.task.read_over.Goals as goal
 
 -- ---- installed packages

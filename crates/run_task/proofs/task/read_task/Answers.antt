@@ -1,7 +1,7 @@
 use Rattle.std.proofs.Common.{ap, sym, ◌∙◌}
 use Rattle.run_input.specs.Words.{Command}
 use Rattle.run_task.specs.Tasks.{made_for}
-use Rattle.run_task.proofs.Stops.{named_made, named_there, seen_made, seen_there}
+use Rattle.run_task.proofs.SeenTasks.{named_made, named_there, seen_made, seen_there}
 use Rattle.run_task.proofs.task.read_task.Goals as goal
 
 pub returns-in-Some-clause-read : goal.returns-in-Some-clause-read

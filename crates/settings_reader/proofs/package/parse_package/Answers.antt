@@ -44,5 +44,6 @@ returns-in_err-require c =
     (said_tells (known package_keys d) ms _ (Err stop) c.in_ok-members.ensures
     (told_tells (IsListAt IsVersionSet (codes "versions") ms) c.in_ok-versions.versions _ (Err stop) c.in_ok-versions.ensures
     (said_tells (may truth_value (codes "buildable") ms) c.in_ok-buildable.buildable _ (Err stop) c.in_ok-buildable.ensures
-    (told_tells (IsListAt (IsExternal name platform) (codes "externals") ms) c.in_ok-externals.externals _ (Err stop) c.in_ok-externals.ensures
+    (told_tells (IsListAt (IsExternal name platform) (codes "externals") ms) c.in_ok-externals.externals _ (Err stop)
+    c.in_ok-externals.ensures
     (told_err (AreRequiredAt ms) _ stop c.in_err-require.ensures)))))

@@ -71,4 +71,4 @@ returns c =
     (told_ok (AreChoices (codes "any_of") ms) c.in_ok-any.any _ _ c.in_ok-any.ensures
     (said_ok (may (text_of Some) (codes "message") ms) c.in_ok-message.message _ _ c.in_ok-message.ensures
     (told_ok (AreChoices (codes "one_of") ms) c.in_ok-one.one _ _ c.in_ok-one.ensures
-    (told_ok (IsWhen ms) c.in_ok-when.when _ _ c.in_ok-when.ensures (ap Ok c.entry_of.ensures))))))
+    (told_ok (IsWhen ms) c.in_ok-when.when _ _ c.in_ok-when.ensures (ap Ok c.required_entry.ensures))))))

@@ -5,7 +5,8 @@ use Rattle.spec_find.proofs.MarkLaws.{starts_low, met_where_marked}
 use Rattle.spec_find.proofs.below.marks_below.Goals as goal
 
 pub marks_above-requires-clause-starts : goal.marks_above-requires-clause-starts
-marks_above-requires-clause-starts c = starts_low c.args.world.now c.args.records.now c.args.parents.now.items c.args.part.now c.as_str.result.now
+marks_above-requires-clause-starts c = starts_low c.args.world.now c.args.records.now c.args.parents.now.items c.args.part.now
+    c.as_str.result.now
     c.in_ok-starts-in-Some.starts c.requires.parents (rw c.as_slice.ensures.value at c.in_ok-starts-in-Some.ensures)
 
 pub returns-in_ok-starts-in-Some-clause-marks : goal.returns-in_ok-starts-in-Some-clause-marks

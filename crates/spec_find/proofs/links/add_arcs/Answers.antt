@@ -1,7 +1,6 @@
-use Rattle.std.proofs.Common.{◌∙◌, ◌++◌, [], sym, subst, map, filter, Contains}
+use Rattle.std.proofs.Common.{◌∙◌, ◌++◌, sym, subst, map, filter, Contains}
 use Rattle.std.proofs.lemmas.List.{append-nil, take_all}
 use Rattle.reachability.specs.Places.{AreNumbered}
-use Rattle.graph_core.specs.Graphs.{Text}
 use Rattle.reuse_db.specs.declared.record.Dependency.{Dependency}
 use Rattle.reuse_db.specs.Databases.{hashes_of}
 use Rattle.spec_find.specs.Found.{is_kept}
@@ -29,14 +28,17 @@ loop-needed-preserved c =
     (sym c.index-records-place.is) in
     elim c.if-is_kept.branch [
       | then-is_kept+in_ok-push w ↦ λ links entry got start.
-          let deps = same_dependencies c.args.records.now c.args.place c.index-records-place.result entry c.as_slice-needed-items.result.now own got
+          let deps = same_dependencies c.args.records.now c.args.place c.index-records-place.result entry
+          c.as_slice-needed-items.result.now own got
           c.as_slice-needed-items.ensures in
           rw (w.arcs-is, w.in_ok-push.ensures.items) (one_arc_more c.args.records.now c.args.place entry got c.loop-needed.needed-index
-          c.needed-item.result (rw deps at c.loop-needed-test.true) (rw deps at c.needed-item.is) (sym c.is_kept.ensures ∙ w.if-is_kept.true)
+          c.needed-item.result (rw deps at c.loop-needed-test.true) (rw deps at c.needed-item.is) (sym c.is_kept.ensures
+          ∙ w.if-is_kept.true)
           w.known_place.result (rw w.as_str.ensures at w.known_place.ensures) links c.loop-needed.arcs.items
           (c.loop-needed.invariant links entry got start))
       | else-is_kept w ↦ λ links entry got start.
-          let deps = same_dependencies c.args.records.now c.args.place c.index-records-place.result entry c.as_slice-needed-items.result.now own got
+          let deps = same_dependencies c.args.records.now c.args.place c.index-records-place.result entry
+          c.as_slice-needed-items.result.now own got
           c.as_slice-needed-items.ensures in
           rw (
             w.arcs-is,
@@ -49,8 +51,10 @@ pub returns : goal.returns
 returns c = λ links entry got start.
     let own = got_from c.args.records.now c.args.place c.index-records-place.result c.index-records-place.result c.requires.place
     (sym c.index-records-place.is) in
-    let deps = same_dependencies c.args.records.now c.args.place c.index-records-place.result entry c.as_slice-needed-items.result.now own got
+    let deps = same_dependencies c.args.records.now c.args.place c.index-records-place.result entry
+    c.as_slice-needed-items.result.now own got
     c.as_slice-needed-items.ensures in
     subst (λ ds. AreNumbered (hashes_of c.args.records.now)
     (links ++ flipped (map (λ (x : Dependency). (entry.hash, x.hash)) (filter is_kept ds))) c.loop-needed.arcs.items)
-    (take_all c.loop-needed.needed-index entry.dependencies (rw deps at c.loop-needed-test.false)) (c.loop-needed.invariant links entry got start)
+    (take_all c.loop-needed.needed-index entry.dependencies (rw deps at c.loop-needed-test.false))
+    (c.loop-needed.invariant links entry got start)

@@ -13,5 +13,7 @@ heads_of-requires c = rw (c.as_slice.ensures.value, ← length-map c.args.record
 
 pub returns : goal.returns
 returns c = ok_both _ _ (λ parents. AreParents c.args.records.now parents.items)
-    (λ parents are within. are_parents c.args.records.now c.as_slice.result.now parents.items (hashes_once c.args.records.now c.requires.right.once)
-    (rw (← c.as_slice.ensures.value) at c.in_ok-arcs.ensures) are within) c.heads_of.result c.heads_of.ensures.arcs c.heads_of.ensures.within
+    (λ parents are within. are_parents c.args.records.now c.as_slice.result.now parents.items
+    (hashes_once c.args.records.now c.requires.right.once)
+    (rw (← c.as_slice.ensures.value) at c.in_ok-arcs.ensures) are within) c.heads_of.result c.heads_of.ensures.arcs
+    c.heads_of.ensures.within

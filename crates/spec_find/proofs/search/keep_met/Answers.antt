@@ -1,5 +1,5 @@
 use Rattle.std.proofs.Common.{◌∙◌, sym, subst, take}
-use Rattle.std.proofs.lemmas.List.{take_more, take_all}
+use Rattle.std.proofs.lemmas.List.{take_more}
 use Rattle.spec_find.specs.Marks.{AreParents}
 use Rattle.spec_find.proofs.FoundLaws.{one_more_part}
 use Rattle.spec_find.proofs.search.keep_met.Goals as goal

@@ -1,4 +1,4 @@
-use Rattle.std.proofs.Common.{◌≡◌, ◌+◌, take, arith}
+use Rattle.std.proofs.Common.{arith}
 use Rattle.table_plan.specs.Numbers.{edge_from, edge_width}
 use Rattle.table_plan.proofs.Runs.{total_more, run_next}
 use Rattle.table_plan.proofs.numbering.edges_from.Goals as goal

@@ -1,6 +1,6 @@
-use Rattle.std.proofs.Common.{◌≡◌, ◌+◌, take, arith}
+use Rattle.std.proofs.Common.{arith}
 use Rattle.std.proofs.lemmas.List.{take_all}
-use Rattle.table_plan.specs.Numbers.{positive_lit, total_width}
+use Rattle.table_plan.specs.Numbers.{positive_lit}
 use Rattle.table_plan.proofs.Runs.{total_more, run_next, ones}
 use Rattle.table_plan.proofs.numbering.numbered.Goals as goal
 

@@ -1,4 +1,4 @@
-use Rattle.std.proofs.Common.{◌≡◌, ◌+◌, take, length, arith}
+use Rattle.std.proofs.Common.{length, arith}
 use Rattle.table_plan.specs.Numbers.{numbered}
 use Rattle.table_plan.proofs.Runs.{total_more, run_next}
 use Rattle.table_plan.proofs.numbering.variants_from.Goals as goal

@@ -11,9 +11,11 @@ abbrev pub invariant-loop-text : goal.invariant-loop-text
 invariant-loop-text l =
     l.terms.items
     ++ map (λ text. weighed_once (all_statements
-    (any_choice (λ value. true) l.fn.values ∷ governs (statement_of l.condition) (rows_of l.fn.later) ∷ no (any_choice (bytes_eq text) l.fn.values) ∷ [])))
+    (any_choice (λ value. true) l.fn.values ∷ governs (statement_of l.condition) (rows_of l.fn.later)
+    ∷ no (any_choice (bytes_eq text) l.fn.values) ∷ [])))
     (drop l.text-index l.fn.row.default)
     ≡ l.fn.terms.items
     ++ map (λ text. weighed_once (all_statements
-    (any_choice (λ value. true) l.fn.values ∷ governs (statement_of l.condition) (rows_of l.fn.later) ∷ no (any_choice (bytes_eq text) l.fn.values) ∷ [])))
+    (any_choice (λ value. true) l.fn.values ∷ governs (statement_of l.condition) (rows_of l.fn.later)
+    ∷ no (any_choice (bytes_eq text) l.fn.values) ∷ [])))
     l.fn.row.default

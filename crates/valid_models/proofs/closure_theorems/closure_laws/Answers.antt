@@ -1,4 +1,4 @@
-use Rattle.std.proofs.Common.{◌≡◌, ℕ, ◌+◌, subst, Bool, refl, arith}
+use Rattle.std.proofs.Common.{◌≡◌, ℕ, ◌+◌, subst, refl, arith}
 use Rattle.std.specs.Cmp.Lexicographic.{nat_list_cmp_total}
 use Rattle.variant_values.specs.Texts.{byte_cmp}
 use Rattle.keyed_lists.proofs.RiseLaws.{rises_decides}

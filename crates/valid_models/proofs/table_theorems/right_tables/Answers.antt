@@ -1,9 +1,8 @@
-use Rattle.std.proofs.Common.{◌≡◌, ℕ, ◌+◌, subst, Bool, false, arith}
+use Rattle.std.proofs.Common.{◌≡◌, ℕ, ◌+◌, subst, false, arith}
 use Rattle.std.specs.Cmp.Lexicographic.{nat_list_cmp_total}
 use Rattle.variant_values.specs.Texts.{byte_cmp}
 use Rattle.keyed_lists.proofs.RiseLaws.{rises_decides}
 use Rattle.table_plan.specs.Plans.{plan_of}
-use Rattle.table_plan.specs.Numbers.{variables_of}
 use Rattle.literal_table.specs.Ranges.{IsTableBelow}
 use Rattle.table_plan.specs.Spellings.{spelling}
 use Rattle.valid_models.specs.Tables.{table_for, size_for}

@@ -6,5 +6,6 @@ use Rattle.condition_rules.proofs.definitions.Definitions.of.Goals as goal
 
 pub returns : goal.returns
 returns c = rw (← c.self.view_is)
-    (IfOk-weaker c.rows_in.result _ _ (λ rows are. are ∙ ap (map (λ (e : Text × VariantRow). e.1)) c.of.ensures ∙ c.self.invariant c.args.variant.now)
+    (IfOk-weaker c.rows_in.result _ _ (λ rows are. are ∙ ap (map (λ (e : Text × VariantRow). e.1)) c.of.ensures
+    ∙ c.self.invariant c.args.variant.now)
     c.rows_in.ensures)

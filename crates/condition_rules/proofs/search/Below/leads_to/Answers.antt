@@ -8,4 +8,5 @@ returns-in-Ok c = rw (← c.self.view_is)
 
 pub returns-in-Err : goal.returns-in-Err
 returns-in-Err c = rw (← c.self.view_is)
-    (not_below c.self.inside.graph.now c.in-Err.ensures.graph c.self.inside.from.now c.in-Err.field-0 c.args.name.now c.in-Err.ensures.place)
+    (not_below c.self.inside.graph.now c.in-Err.ensures.graph c.self.inside.from.now c.in-Err.field-0 c.args.name.now
+    c.in-Err.ensures.place)

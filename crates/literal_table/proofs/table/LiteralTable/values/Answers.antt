@@ -1,4 +1,4 @@
-use Rattle.std.proofs.Common.{◌≡◌, sym, ap, ◌∙◌, List, Option, Some}
+use Rattle.std.proofs.Common.{sym, ap, ◌∙◌, List, Option}
 use Rattle.std.specs.Cmp.Lexicographic.{nat_list_cmp_total}
 use Rattle.std.proofs.lemmas.List.Elements.{All-contains}
 use Rattle.variant_values.specs.Texts.{byte_cmp}

@@ -10,11 +10,13 @@ part-lits-requires-clause-place c =
 
 pub returns-clause-value : goal.returns-clause-value
 returns-clause-value c =
-    got _ _ _ c.self.view_is c.args.place c.requires _ _ _ _ _ c.as_slice.ensures.value c.as_slice-2.ensures.value c.as_slice-3.ensures.value
+    got _ _ _ c.self.view_is c.args.place c.requires _ _ _ _ _ c.as_slice.ensures.value c.as_slice-2.ensures.value
+    c.as_slice-3.ensures.value
     c.part-lits.ensures c.is_bit_at.ensures
 
 pub returns-clause-in_order : goal.returns-clause-in_order
 returns-clause-in_order c =
     got-order _ _ _ c.self.view_is c.args.place c.requires _ c.self.invariant.1
-    (got _ _ _ c.self.view_is c.args.place c.requires _ _ _ _ _ c.as_slice.ensures.value c.as_slice-2.ensures.value c.as_slice-3.ensures.value
+    (got _ _ _ c.self.view_is c.args.place c.requires _ _ _ _ _ c.as_slice.ensures.value c.as_slice-2.ensures.value
+    c.as_slice-3.ensures.value
     c.part-lits.ensures c.is_bit_at.ensures)

@@ -18,7 +18,8 @@ pub split_at-requires : goal.split_at-requires
 split_at-requires c =
     let s = arc_value c.self.inside.shared in
     rw (c.deref-2.ensures, c.len-roots.ensures, c.as_slice-list.ensures, c.deref.ensures)
-    (more_roots (problem_of s.recipes s.settings s.database c.self.inside.roots) s.most s.demands c.self.invariant.asked c.self.invariant.few)
+    (more_roots (problem_of s.recipes s.settings s.database c.self.inside.roots) s.most s.demands c.self.invariant.asked
+    c.self.invariant.few)
 
 pub returns : goal.returns
 returns c =

@@ -7,7 +7,8 @@ pub overflow_sub-result : goal.overflow_sub-result
 overflow_sub-result c =
     let s = arc_value c.self.inside.shared in
     rw (c.len-2.ensures, c.deref-2.ensures, c.deref.ensures, c.len.ensures)
-    (more_roots (problem_of s.recipes s.settings s.database c.self.inside.roots) s.most s.demands c.self.invariant.asked c.self.invariant.few)
+    (more_roots (problem_of s.recipes s.settings s.database c.self.inside.roots) s.most s.demands c.self.invariant.asked
+    c.self.invariant.few)
 
 pub returns : goal.returns
 returns c =

@@ -1,5 +1,5 @@
 use Rattle.std.proofs.Common.{◌∙◌, ap}
-use Rattle.reason_minimum.specs.Parts.{without}
+use Rattle.reason_minimum.specs.Parts.{without_number}
 use Rattle.reason_minimum.specs.Reductions.{in_either}
 use Rattle.reason_minimum.proofs.Rounds.{settled-reduces}
 use Rattle.reason_minimum.proofs.reduction.Reduction.settle.Goals as goal
@@ -11,4 +11,4 @@ returns-clause-reduces c = λ s reduces needed.
     settled-reduces s ns c.add_needed.new.needed.items cs c.in_ok-self.field-0.items c.args.self.now.models.items
     c.add_needed.new.models.items c.args.demand c.args.model reduces needed c.in_ok-add_needed.ensures.needed
     (c.in_ok-add_needed.ensures.models s (in_either ns cs) reduces.each_needed needed.1)
-    (c.in_ok-self.ensures ∙ ap (without c.args.demand) c.as_slice.ensures.value)
+    (c.in_ok-self.ensures ∙ ap (without_number c.args.demand) c.as_slice.ensures.value)

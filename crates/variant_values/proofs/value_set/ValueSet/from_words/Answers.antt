@@ -3,7 +3,8 @@ use Rattle.variant_values.proofs.Many.{one_by_one, once_in_order, once_same}
 use Rattle.variant_values.proofs.value_set.ValueSet.from_words.Goals as goal
 
 pub invariant_of-result : goal.invariant_of-result
-invariant_of-result c = rw (c.shrink_to_fit.ensures.items, dedup_is _ _ _ c.dedup.ensures.filtered) (once_in_order _ c.sort_unstable.ensures.sorted)
+invariant_of-result c = rw (c.shrink_to_fit.ensures.items, dedup_is _ _ _ c.dedup.ensures.filtered)
+    (once_in_order _ c.sort_unstable.ensures.sorted)
 
 pub returns : goal.returns
 returns c =
