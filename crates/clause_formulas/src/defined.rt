@@ -3,6 +3,7 @@ ghost use Rattle.std.specs.Prelude.{◌≡◌, OnOk};
 ghost use Rattle.clause_formulas.specs.Drafts.{reverse_of, draft_with, empty};
 
 use clause_store::Lit;
+use smallvec::SmallVec;
 use std::alloc::{AllocError, Global};
 use std::marker::Model;
 
@@ -25,10 +26,11 @@ impl Defined {
     }
 }
 
-/// A clause in the making: some literal is true, or it always holds.
+/// A clause in the making: some literal is true, or it always holds. Up to four literals stand in
+/// place.
 #[derive(Drop)]
 pub(crate) struct Draft {
-    lits: Vec<Lit>,
+    lits: SmallVec<Lit, 4>,
     always: bool,
 }
 
@@ -46,7 +48,7 @@ impl Draft {
         ensures { result ≡ empty }
     {
         Draft {
-            lits: Vec::new(alloc),
+            lits: SmallVec::new(alloc),
             always: false,
         }
     }

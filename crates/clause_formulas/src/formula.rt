@@ -101,7 +101,7 @@ impl Formula {
     pub fn all(alloc: Global, parts: Vec<Formula>) -> Result<Formula, AllocError>
         ensures { IfOk result (λ formula. formula ≡ all_statements parts.items) }
     {
-        let mut negated = Vec::new(alloc);
+        let mut negated = Vec::with_capacity(alloc, parts.len())?;
         for part in parts {
             negated.push(part.negated())?;
         }
@@ -114,17 +114,19 @@ impl Formula {
     pub fn both(alloc: Global, first: Formula, second: Formula) -> Result<Formula, AllocError>
         ensures { IfOk result (λ formula. formula ≡ both_statements first second) }
     {
-        let mut parts = Vec::new(alloc);
-        parts.push(first)?;
-        parts.push(second)?;
-        Formula::all(alloc, parts)
+        let mut negated = Vec::with_capacity(alloc, 2)?;
+        negated.push(first.negated())?;
+        negated.push(second.negated())?;
+        Ok(Formula {
+            node: Node::NoneOf(negated),
+        })
     }
 
     /// The second formula is true where the first is.
     pub fn implies(alloc: Global, first: Formula, second: Formula) -> Result<Formula, AllocError>
         ensures { IfOk result (λ formula. formula ≡ implication_of first second) }
     {
-        let mut parts = Vec::new(alloc);
+        let mut parts = Vec::with_capacity(alloc, 2)?;
         parts.push(first.negated())?;
         parts.push(second)?;
         Ok(Formula::any(parts))
@@ -158,7 +160,7 @@ pub(crate) fn push_not_both(
         ++ map (not_both lit) others.now) }
 {
     for other in others {
-        let mut pair = Vec::new(alloc);
+        let mut pair = Vec::with_capacity(alloc, 2)?;
         pair.push(Formula::lit(lit.negated()))?;
         pair.push(Formula::lit(other.negated()))?;
         parts.push(Formula::any(pair))?;
