@@ -1,5 +1,5 @@
 //! A clause: literals in order of variables, each variable once.
-ghost use Rattle.std.specs.Prelude.{◌≡◌, List, [], ◌∷◌, IfOk, IsTrue, Some, None, false};
+ghost use Rattle.std.specs.Prelude.{◌≡◌, List, [], ◌∷◌, ◌++◌, IfOk, IsTrue, Some, None, false};
 ghost use Rattle.clause_store.specs.Lits.{var_of, place_of, with_lit, with_lits, clause_of, IsClause, AllBelow};
 ghost use Rattle.clause_store.specs.Kept.{lits_of_codes};
 
@@ -122,6 +122,22 @@ fn put_all(kept: &mut SmallVec<Lit, 4>, lits: &[Lit]) -> Result<bool, AllocError
         }
     }
     Ok(true)
+}
+
+/// Whether the variables rise, and the last one's is above them.
+pub(crate) fn rises(lits: &[Lit], last: Lit) -> bool
+    ensures { IsTrue result → IsClause (lits.now ++ last ∷ []) }
+{
+    let count = lits.len();
+    let mut next = last;
+    for i in 0..count {
+        let lit = lits[count - (i + 1)];
+        if lit.var.0 >= next.var.0 {
+            return false;
+        }
+        next = lit;
+    }
+    true
 }
 
 // Whether all variables are below the literal's: they are where the last one is.
