@@ -6,7 +6,7 @@ use Rattle.std.proofs.Math.Seq.{take-append_seam}
 use Rattle.clause_store.specs.declared.Lit.{Lit}
 use Rattle.clause_store.specs.declared.Label.TheVariants.{Structure}
 use Rattle.clause_store.specs.Lits.{negation, lit_true, clause_true, AllBelow}
-use Rattle.clause_store.specs.Clauses.{Clauses}
+use Rattle.clause_store.specs.Clauses.{Clauses, with_var}
 use Rattle.clause_store.proofs.Entries.{Meets-parts}
 use Rattle.clause_store.proofs.Meaning.{lit_true-negation}
 use Rattle.clause_circuits.specs.Growth.{Extends, DefinesLit, CoversLit, MeetsSince}
@@ -16,7 +16,8 @@ use Rattle.clause_circuits.proofs.Composed.{Grows-from, since-from}
 use Rattle.clause_circuits.proofs.KeptClauses.{AllClausesBelow-take, labelled-in_range, rules-true}
 use Rattle.clause_circuits.proofs.Plans.{headed-true}
 use Rattle.clause_circuits.proofs.Loops.{clauses_from-append}
-use Rattle.clause_circuits.proofs.OneGate.{any-below, any-stopped, any-gate}
+use Rattle.clause_circuits.proofs.OneGate.{any-below, any-rules-below, any-stopped, any-gate}
+use Rattle.clause_circuits.proofs.Added.{first-below}
 
 -- each literal of a list is false, or the list is true
 negated-true : (v : ℕ → Bool) (ls : List Lit) → rules_true v (singles (map negation ls)) ≡ not (clause_true v ls)
@@ -49,6 +50,11 @@ module _ (s : Clauses) (ls : List Lit) (b : AllBelow s.vars ls) (cs : List (List
   cover-below =
       let below = AllClausesBelow-take (s.vars + 1) (length cs) all (any-below s ls b all x refl h) in
       rw (all-is, take-append_seam cs rest) at below
+
+  -- so are the rules that they come from
+  pub cover-rules-below : (cur : Clauses) → cur ≡ with_var s → AllClausesBelow cur.vars (cover_rules x ls)
+  cover-rules-below cur q = first-below cur.vars (gate_rules x (any_of ls)) (cover_rules x ls) ((negation x ∷ ls) ∷ []) refl
+      (any-rules-below s ls b all x refl h cur q)
 
   front : (k : ℕ) → (j : ℕ) × (take k cs ≡ take j all)
   front k = elim (cases_lt k (length cs)) [

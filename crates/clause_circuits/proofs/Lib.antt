@@ -4,6 +4,7 @@ pub mod Plans
 pub mod StepLaws
 pub mod ShapeLaws
 pub mod Loops
+pub mod Added
 pub mod OneGate
 pub mod Cover
 pub mod TreeLaws

@@ -8,11 +8,9 @@ use Rattle.clause_store.specs.declared.Label.TheVariants.{Structure}
 use Rattle.clause_store.proofs.Entries.{Meets-parts}
 use Rattle.clause_circuits.specs.Growth.{Grows, Extends, Defines}
 use Rattle.clause_circuits.specs.Gates.{Sides, Planned, kept_clauses, clauses_from, labelled, with_defined, with_gates, Partial, InOrder, IsSound, AllClausesBelow, gate_rules, lit_of}
-use Rattle.clause_circuits.specs.Shapes.{any_of, cover_rules}
-use Rattle.clause_store.specs.Lits.{negation}
 use Rattle.clause_circuits.proofs.KeptClauses.{labelled-in_range, AllClausesBelow-take}
 use Rattle.clause_circuits.proofs.Composed.{since, since-from, whole, Grows-from, Grows-trans}
-use Rattle.clause_circuits.proofs.Plans.{step-below, gates-grow, plan_defines}
+use Rattle.clause_circuits.proofs.Plans.{step-below, step-rules-below, gates-grow, plan_defines}
 
 pub clauses_from-append : (rs ss : List (List Lit)) → clauses_from (rs ++ ss) ≡ clauses_from rs ++ clauses_from ss
 clauses_from-append [] ss = refl
@@ -73,9 +71,9 @@ module _ (p : Planned) (s : Clauses) (gs : List Sides) (sound : IsSound p) (firs
   in_order_at i d h = InOrder-back s.vars (reverse (drop (i + 1) gs)) (get_or gs i d ∷ reverse (take i gs))
       (subst (InOrder s.vars) (turned gs i d h) sound_here.in_order)
 
-  pub define-below : (cur : Clauses) (i : ℕ) (d : Sides) (cs : List (List Lit)) → i < length gs → cur ≡ with_gates s (reverse (take i gs))
-      → cs ≡ clauses_from (gate_rules (lit_of cur.vars) (get_or gs i d)) → AllClausesBelow (cur.vars + 1) cs
-  define-below cur i d cs h e f = rw (f, e) (step-below s (get_or gs i d) (reverse (take i gs)) (in_order_at i d h))
+  pub define-below : (cur : Clauses) (i : ℕ) (d g : Sides) → i < length gs → cur ≡ with_gates s (reverse (take i gs)) → g ≡ get_or gs i d
+      → AllClausesBelow (cur.vars + 1) (gate_rules (lit_of cur.vars) g)
+  define-below cur i d g h e q = rw (q, e) (step-rules-below s (get_or gs i d) (reverse (take i gs)) (in_order_at i d h))
 
   -- where it stopped on the way, each assignment of the old variables goes on
   pub stopped : (cur new : Clauses) (i : ℕ) (d : Sides) (cs : List (List Lit)) → i < length gs → cur ≡ with_gates s (reverse (take i gs))
@@ -118,10 +116,3 @@ module _ (p : Planned) (s : Clauses) (gs : List Sides) (sound : IsSound p) (firs
 pub rules-at : (cs : List (List Lit)) (x y : Lit) (g h : Sides) → cs ≡ clauses_from (gate_rules x g) → x ≡ y → g ≡ h
     → cs ≡ clauses_from (gate_rules y h)
 rules-at cs x y g h e f k = e ∙ rw (f, k) refl
-
--- one side of the gate for some literal, and the other
-pub any-rules : (x y : Lit) (ls : List Lit) (cs ds : List (List Lit)) → cs ≡ clauses_from (cover_rules x ls) → y ≡ negation x
-    → ds ≡ cs ++ kept_clauses (y ∷ ls) → ds ≡ clauses_from (gate_rules x (any_of ls))
-any-rules x y ls cs ds e f g =
-    g ∙ rw (e, f) (sym (clauses_from-append (cover_rules x ls) ((negation x ∷ ls) ∷ [])
-    ∙ ap (λ es. clauses_from (cover_rules x ls) ++ es) (append-nil (kept_clauses (negation x ∷ ls)))))

@@ -2,15 +2,16 @@
 use Rattle.std.proofs.Common.{◌≡◌, ◌+◌, List, [], ◌∷◌, refl, sym, ap, ◌∙◌, subst, arith}
 use Rattle.clause_store.specs.declared.Lit.{Lit}
 use Rattle.clause_store.specs.Lits.{clause_true, AllBelow}
-use Rattle.clause_store.specs.Clauses.{Clauses}
+use Rattle.clause_store.specs.Clauses.{Clauses, with_var}
 use Rattle.clause_circuits.specs.Growth.{Extends, DefinesLit}
 use Rattle.clause_circuits.specs.Gates.{Partial, AllClausesBelow, IsSound, clauses_from, gate_rules, lit_of, with_defined, with_gate, with_gates}
 use Rattle.clause_circuits.specs.Shapes.{any_of}
 use Rattle.clause_circuits.specs.Steps.{Shows, plan_at}
-use Rattle.clause_circuits.proofs.Plans.{step-below}
+use Rattle.clause_circuits.proofs.Plans.{step-below, step-rules-below}
 use Rattle.clause_circuits.proofs.StepLaws.{sound_from, lit-gate, here-below}
 use Rattle.clause_circuits.proofs.ShapeLaws.{any_of-is}
 use Rattle.clause_circuits.proofs.Loops.{stopped}
+use Rattle.clause_circuits.proofs.Added.{gate-below}
 
 -- from the clauses that the code made for the next variable
 module _ (s : Clauses) (ls : List Lit) (b : AllBelow s.vars ls) (cs : List (List Lit)) (x : Lit)
@@ -27,6 +28,10 @@ module _ (s : Clauses) (ls : List Lit) (b : AllBelow s.vars ls) (cs : List (List
   -- the clauses are over the old variables and the new one
   pub any-below : AllClausesBelow (s.vars + 1) cs
   any-below = subst (AllClausesBelow (s.vars + 1)) (sym same_clauses) (step-below s (any_of ls) [] sound.in_order)
+
+  -- so are the rules that they come from
+  pub any-rules-below : (cur : Clauses) → cur ≡ with_var s → AllClausesBelow cur.vars (gate_rules x (any_of ls))
+  any-rules-below cur q = gate-below s cur x (any_of ls) q h (step-rules-below s (any_of ls) [] sound.in_order)
 
   -- where the code stopped on the way, each old assignment still extends
   pub any-stopped : (new : Clauses) → Partial s new cs → Extends s new

@@ -84,9 +84,13 @@ rules-below n g a b =
     (headed-below (n + 1) (lit_of n) g.on k (AllClausesBelow-le n (n + 1) g.on h a))
     (headed-below (n + 1) (negation (lit_of n)) g.off k (AllClausesBelow-le n (n + 1) g.off h b))
 
+pub step-rules-below : (s : Clauses) (g : Sides) (gs : List Sides) → InOrder s.vars (g ∷ gs)
+    → AllClausesBelow ((with_gates s gs).vars + 1) (gate_rules (lit_of (with_gates s gs).vars) g)
+step-rules-below s g gs o = rw (vars_are s gs) (rules-below (s.vars + length gs) g o.0 o.1)
+
 pub step-below : (s : Clauses) (g : Sides) (gs : List Sides) → InOrder s.vars (g ∷ gs)
     → AllClausesBelow ((with_gates s gs).vars + 1) (clauses_from (gate_rules (lit_of (with_gates s gs).vars) g))
-step-below s g gs o = clauses_from-below _ _ (rw (vars_are s gs) (rules-below (s.vars + length gs) g o.0 o.1))
+step-below s g gs o = clauses_from-below _ _ (step-rules-below s g gs o)
 
 step-grows : (s : Clauses) (g : Sides) (gs : List Sides) → InOrder s.vars (g ∷ gs) → Grows (with_gates s gs) (with_gates s (g ∷ gs))
 step-grows s g gs o = Grows-from (with_gates s gs) (with_gates s (g ∷ gs)) _ refl (omega arith)

@@ -5,7 +5,7 @@ use Rattle.clause_store.specs.declared.Label.{Label}
 use Rattle.clause_store.specs.declared.Label.TheVariants.{Structure}
 use Rattle.clause_store.specs.Lits.{negation, clause_true, clause_of, AllBelow}
 use Rattle.clause_store.specs.declared.list.Entry.{Entry}
-use Rattle.clause_store.specs.Clauses.{Clauses}
+use Rattle.clause_store.specs.Clauses.{Clauses, with_structure}
 
 -- a gate is true where a clause of `on` fails, and false where one of `off` does
 pub record Sides : Type 0 where
@@ -87,6 +87,15 @@ labelled label c = record { clause = c; label = label }
 -- one more variable, with clauses of the structure
 abbrev pub with_defined : Clauses → List (List Lit) → Clauses
 with_defined s cs = record { entries = s.entries ++ map (labelled Structure) cs; vars = s.vars + 1 }
+
+-- a list with the clauses of some rules, one after the other
+abbrev pub with_rules : Clauses → List (List Lit) → Clauses
+with_rules s [] = s
+with_rules s (r ∷ rs) = with_rules (with_structure s (clause_of r)) rs
+
+-- a list with the clauses of the first rules
+abbrev pub Partly : Clauses → Clauses → List (List Lit) → Type 0
+Partly old new rs = (front : List (List Lit)) × (back : List (List Lit)) × (rs ≡ front ++ back) × (new ≡ with_rules old front)
 
 -- the list as it was, or with the variable and some of the clauses
 abbrev pub Partial : Clauses → Clauses → List (List Lit) → Type 0

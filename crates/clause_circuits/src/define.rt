@@ -2,12 +2,13 @@
 ghost use Rattle.std.specs.Prelude.{◌≡◌, ◌+◌, [], ◌∷◌, IfOk, OnOk};
 ghost use Rattle.clause_store.specs.Lits.{AllBelow, clause_true};
 ghost use Rattle.clause_circuits.specs.Growth.{Extends, DefinesLit, CoversLit};
-ghost use Rattle.clause_circuits.specs.Gates.{AllClausesBelow, with_defined, Partial, lit_of, with_gates, IsSound};
+ghost use Rattle.clause_circuits.specs.Gates.{AllClausesBelow, with_defined, clauses_from, gate_rules, Partial, lit_of, with_gates, IsSound};
 ghost use Rattle.clause_circuits.specs.Shapes.{any_of, with_cover};
 
+use crate::gate::Gate;
 use crate::plan::Plan;
-use crate::rules::{rules_of, rules_of_any, rules_of_cover};
-use clause_store::{Clause, ClauseList, Label, Lit, Var};
+use crate::rules::{add_any, add_cover, add_rules};
+use clause_store::{ClauseList, Lit, Var};
 use std::alloc::{AllocError, Global};
 
 /// Adds the clauses of a plan, labelled as structure, to the list that it was begun at: they define
@@ -19,8 +20,7 @@ pub fn define_plan(alloc: Global, clauses: &mut ClauseList, plan: &Plan) -> Resu
     ensures extends { Extends clauses.old clauses.new }
 {
     for gate in plan.gates() {
-        let rules = rules_of(alloc, next_lit(clauses), gate)?;
-        define(clauses, rules)?;
+        define(alloc, clauses, gate)?;
     }
     Ok(())
 }
@@ -36,8 +36,8 @@ pub fn define_any(alloc: Global, clauses: &mut ClauseList, lits: &[Lit]) -> Resu
     ensures extends { Extends clauses.old clauses.new }
 {
     let lit = next_lit(clauses);
-    let rules = rules_of_any(alloc, lit, lits)?;
-    define(clauses, rules)?;
+    clauses.new_var()?;
+    add_any(alloc, clauses, lit, lits)?;
     Ok(lit)
 }
 
@@ -57,8 +57,8 @@ pub fn define_cover(
     ensures extends { Extends clauses.old clauses.new }
 {
     let lit = next_lit(clauses);
-    let rules = rules_of_cover(alloc, lit, lits)?;
-    define(clauses, rules)?;
+    clauses.new_var()?;
+    add_cover(alloc, clauses, lit, lits)?;
     Ok(lit)
 }
 
@@ -72,15 +72,17 @@ fn next_lit(clauses: &ClauseList) -> Lit
     }
 }
 
-// One more variable, and clauses of the structure that say when it is true.
-fn define(clauses: &mut ClauseList, rules: Vec<Clause>) -> Result<(), AllocError>
-    requires { AllClausesBelow (clauses.old.vars + 1) rules.items }
-    ensures ok { OnOk result (clauses.new ≡ with_defined clauses.old rules.items) }
-    ensures partial { Partial clauses.old clauses.new rules.items }
+// One more variable, and clauses of the structure that give it the meaning of a gate.
+fn define(alloc: Global, clauses: &mut ClauseList, gate: &Gate) -> Result<(), AllocError>
+    requires { AllClausesBelow (clauses.old.vars + 1)
+        (gate_rules (lit_of clauses.old.vars) gate.now) }
+    ensures ok { OnOk result (clauses.new ≡ with_defined clauses.old
+        (clauses_from (gate_rules (lit_of clauses.old.vars) gate.now))) }
+    ensures partial { Partial clauses.old clauses.new
+        (clauses_from (gate_rules (lit_of clauses.old.vars) gate.now)) }
 {
+    let lit = next_lit(clauses);
     clauses.new_var()?;
-    for clause in rules {
-        clauses.add(clause, Label::Structure)?;
-    }
+    add_rules(alloc, clauses, lit, gate)?;
     Ok(())
 }

@@ -33,6 +33,13 @@ impl Lits {
         })
     }
 
+    /// The literals of a short vector, which is taken over.
+    pub fn from_small(items: SmallVec<Lit, 3>) -> Lits
+        ensures { result ≡ items.items }
+    {
+        Lits { items }
+    }
+
     /// The literals.
     pub fn as_slice(&self) -> &[Lit]
         ensures { result.now ≡ self.now }

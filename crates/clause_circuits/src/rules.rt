@@ -1,110 +1,115 @@
 //! The clauses of one gate.
-ghost use Rattle.std.specs.Prelude.{◌≡◌, [], ◌∷◌, ◌++◌, map, IfOk, OnOk};
+ghost use Rattle.std.specs.Prelude.{◌≡◌, [], ◌∷◌, ◌++◌, OnOk};
 ghost use Rattle.clause_store.specs.Lits.{negation};
-ghost use Rattle.clause_circuits.specs.Gates.{kept_clauses, clauses_from, headed, gate_rules};
-ghost use Rattle.clause_circuits.specs.Shapes.{both, any_of, singles, cover_rules};
+ghost use Rattle.clause_circuits.specs.Gates.{AllClausesBelow, Partly, with_rules, headed, gate_rules};
+ghost use Rattle.clause_circuits.specs.Shapes.{both, any_of, cover_rules};
 
 use crate::gate::{Gate, Lits, Shape};
-use clause_store::{Clause, Lit};
-use smallvec::SmallVec;
+use clause_store::{ClauseList, Lit};
 use std::alloc::{AllocError, Global};
 
-/// The clauses that give a literal the meaning of a gate.
-pub(crate) fn rules_of(alloc: Global, lit: Lit, gate: &Gate) -> Result<Vec<Clause>, AllocError>
-    ensures { IfOk result (λ rules. rules.items ≡ clauses_from (gate_rules lit gate.now)) }
+/// Adds the clauses that give a literal the meaning of a gate.
+pub(crate) fn add_rules(
+    alloc: Global,
+    clauses: &mut ClauseList,
+    x: Lit,
+    gate: &Gate,
+) -> Result<(), AllocError>
+    requires { AllClausesBelow clauses.old.vars (gate_rules x gate.now) }
+    ensures ok { OnOk result (clauses.new ≡ with_rules clauses.old (gate_rules x gate.now)) }
+    ensures partial { Partly clauses.old clauses.new (gate_rules x gate.now) }
 {
     match &gate.shape {
-        Shape::Both(a, b) => rules_of_both(alloc, lit, *a, *b),
-        Shape::Never => rules_of_any(alloc, lit, &[]),
-        Shape::Given(on, off) => rules_of_given(alloc, lit, on.as_slice(), off.as_slice()),
+        Shape::Both(a, b) => add_both(alloc, clauses, x, *a, *b),
+        Shape::Never => add_any(alloc, clauses, x, &[]),
+        Shape::Given(on, off) => add_given(alloc, clauses, x, on.as_slice(), off.as_slice()),
     }
 }
 
-// The clauses of a gate for two.
-fn rules_of_both(alloc: Global, x: Lit, a: Lit, b: Lit) -> Result<Vec<Clause>, AllocError>
-    ensures { IfOk result (λ rules. rules.items ≡ clauses_from (gate_rules x (both a b))) }
-{
-    let mut rules = Vec::with_capacity(alloc, 3)?;
-    push_rules(alloc, &mut rules, &[[x, a.negated(), b.negated()]])?;
-    push_rules(alloc, &mut rules, &[[x.negated(), a], [x.negated(), b]])?;
-    Ok(rules)
-}
-
-/// The clauses of a gate for some literal of a list.
-pub(crate) fn rules_of_any(alloc: Global, x: Lit, lits: &[Lit]) -> Result<Vec<Clause>, AllocError>
-    ensures { IfOk result (λ rules. rules.items ≡ clauses_from (gate_rules x (any_of lits.now))) }
-{
-    let mut rules = rules_of_cover(alloc, x, lits)?;
-    push_headed(alloc, &mut rules, x.negated(), lits)?;
-    Ok(rules)
-}
-
-/// The clauses of its one side: the literal is true where some literal of the list is.
-pub(crate) fn rules_of_cover(alloc: Global, x: Lit, lits: &[Lit]) -> Result<Vec<Clause>, AllocError>
-    ensures { IfOk result (λ rules. rules.items ≡ clauses_from (cover_rules x lits.now)) }
-{
-    let mut rules = Vec::with_capacity(alloc, lits.len() + 1)?;
-    for lit in lits {
-        push_rule(alloc, &mut rules, &[x, lit.negated()])?;
-    }
-    Ok(rules)
-}
-
-// The clauses of a gate that is given by its clauses.
-fn rules_of_given(
+// Adds the clauses of a gate for two.
+fn add_both(
     alloc: Global,
+    clauses: &mut ClauseList,
     x: Lit,
-    on: &[Lits],
-    off: &[Lits],
-) -> Result<Vec<Clause>, AllocError>
-    ensures { IfOk result (λ rules. rules.items
-        ≡ clauses_from (headed x on.now ++ headed (negation x) off.now)) }
+    a: Lit,
+    b: Lit,
+) -> Result<(), AllocError>
+    requires { AllClausesBelow clauses.old.vars (gate_rules x (both a b)) }
+    ensures ok { OnOk result (clauses.new ≡ with_rules clauses.old (gate_rules x (both a b))) }
+    ensures partial { Partly clauses.old clauses.new (gate_rules x (both a b)) }
 {
-    let mut rules = Vec::with_capacity(alloc, on.len() + off.len())?;
-    for lits in on {
-        push_headed(alloc, &mut rules, x, lits.as_slice())?;
-    }
-    for lits in off {
-        push_headed(alloc, &mut rules, x.negated(), lits.as_slice())?;
-    }
-    Ok(rules)
+    clauses.add_headed(alloc, x, &[a.negated(), b.negated()])?;
+    clauses.add_headed(alloc, x.negated(), &[a])?;
+    clauses.add_headed(alloc, x.negated(), &[b])?;
+    Ok(())
 }
 
-// The clause of a list with one literal more, if it doesn't always hold.
-fn push_headed(
+/// Adds the clauses of a gate for some literal of a list.
+pub(crate) fn add_any(
     alloc: Global,
-    rules: &mut Vec<Clause>,
-    head: Lit,
+    clauses: &mut ClauseList,
+    x: Lit,
     lits: &[Lit],
 ) -> Result<(), AllocError>
-    ensures { OnOk result (rules.new.items ≡ rules.old.items ++ kept_clauses (head ∷ lits.now)) }
+    requires { AllClausesBelow clauses.old.vars (gate_rules x (any_of lits.now)) }
+    ensures ok { OnOk result (clauses.new
+        ≡ with_rules clauses.old (gate_rules x (any_of lits.now))) }
+    ensures partial { Partly clauses.old clauses.new (gate_rules x (any_of lits.now)) }
 {
-    let mut all: SmallVec<Lit, 4> = SmallVec::new(alloc);
-    all.push(head)?;
-    all.extend_from_slice(lits)?;
-    push_rule(alloc, rules, all.as_slice())
+    add_cover(alloc, clauses, x, lits)?;
+    clauses.add_headed(alloc, x.negated(), lits)?;
+    Ok(())
 }
 
-// The clauses of some lists of one length.
-fn push_rules<const N: usize>(
+/// Adds the clauses of its one side: the literal is true where some literal of the list is.
+pub(crate) fn add_cover(
     alloc: Global,
-    rules: &mut Vec<Clause>,
-    lists: &[[Lit; N]],
+    clauses: &mut ClauseList,
+    x: Lit,
+    lits: &[Lit],
 ) -> Result<(), AllocError>
-    ensures { OnOk result (rules.new.items ≡ rules.old.items ++ clauses_from lists.now) }
+    requires { AllClausesBelow clauses.old.vars (cover_rules x lits.now) }
+    ensures ok { OnOk result (clauses.new ≡ with_rules clauses.old (cover_rules x lits.now)) }
+    ensures partial { Partly clauses.old clauses.new (cover_rules x lits.now) }
 {
-    for lits in lists {
-        push_rule(alloc, rules, lits)?;
+    for lit in lits {
+        clauses.add_headed(alloc, x, &[lit.negated()])?;
     }
     Ok(())
 }
 
-// One more clause, if it doesn't always hold.
-fn push_rule(alloc: Global, rules: &mut Vec<Clause>, lits: &[Lit]) -> Result<(), AllocError>
-    ensures { OnOk result (rules.new.items ≡ rules.old.items ++ kept_clauses lits.now) }
+// Adds the clauses of a gate that is given by its clauses.
+fn add_given(
+    alloc: Global,
+    clauses: &mut ClauseList,
+    x: Lit,
+    on: &[Lits],
+    off: &[Lits],
+) -> Result<(), AllocError>
+    requires { AllClausesBelow clauses.old.vars (headed x on.now ++ headed (negation x) off.now) }
+    ensures ok { OnOk result (clauses.new
+        ≡ with_rules clauses.old (headed x on.now ++ headed (negation x) off.now)) }
+    ensures partial { Partly clauses.old clauses.new
+        (headed x on.now ++ headed (negation x) off.now) }
 {
-    if let Some(clause) = Clause::new(alloc, lits)? {
-        rules.push(clause)?;
+    add_side(alloc, clauses, x, on)?;
+    add_side(alloc, clauses, x.negated(), off)?;
+    Ok(())
+}
+
+// Adds the clauses of one of its sides.
+fn add_side(
+    alloc: Global,
+    clauses: &mut ClauseList,
+    head: Lit,
+    side: &[Lits],
+) -> Result<(), AllocError>
+    requires { AllClausesBelow clauses.old.vars (headed head side.now) }
+    ensures ok { OnOk result (clauses.new ≡ with_rules clauses.old (headed head side.now)) }
+    ensures partial { Partly clauses.old clauses.new (headed head side.now) }
+{
+    for lits in side {
+        clauses.add_headed(alloc, head, lits.as_slice())?;
     }
     Ok(())
 }

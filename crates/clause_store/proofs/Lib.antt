@@ -2,6 +2,7 @@ pub mod Order
 pub mod Places
 pub mod Range
 pub mod Sets
+pub mod Headed
 pub mod Meaning
 pub mod Entries
 pub mod Kept

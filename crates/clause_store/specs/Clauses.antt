@@ -1,6 +1,6 @@
 -- A growing list of labelled clauses over numbered variables.
 use Prim.Native.Nat.{zero, suc}
-use Rattle.std.specs.Prelude.{◌≡◌, ℕ, ◌+◌, Bool, true, not, ◌||◌, List, [], ◌∷◌, ◌++◌, Option, None, slice_get}
+use Rattle.std.specs.Prelude.{◌≡◌, ℕ, ◌+◌, Bool, true, not, ◌||◌, List, [], ◌∷◌, ◌++◌, Option, None, Some, slice_get}
 use Rattle.clause_store.specs.declared.Lit.{Lit}
 use Rattle.clause_store.specs.declared.Label.{Label}
 use Rattle.clause_store.specs.declared.Label.TheVariants.{Structure, Demand}
@@ -19,6 +19,11 @@ with_var s = record s { vars = s.vars + 1 }
 -- one more clause
 abbrev pub with_clause : Clauses → List Lit → Label → Clauses
 with_clause s c label = record s { entries = s.entries ++ record { clause = c; label = label } ∷ [] }
+
+-- one more clause of the structure, if there is one
+abbrev pub with_structure : Clauses → Option (List Lit) → Clauses
+with_structure s None = s
+with_structure s (Some c) = with_clause s c Structure
 
 abbrev pub AllInRange : ℕ → List Entry → Type 0
 AllInRange n [] = Unit {0}

@@ -1,6 +1,6 @@
 //! A clause: literals in order of variables, each variable once.
-ghost use Rattle.std.specs.Prelude.{◌≡◌, List, [], ◌∷◌, IfOk, IsTrue, Some, None, false};
-ghost use Rattle.clause_store.specs.Lits.{place_of, with_lit, clause_of, IsClause};
+ghost use Rattle.std.specs.Prelude.{◌≡◌, List, [], ◌∷◌, ◌++◌, IfOk, IsTrue, Some, None, false};
+ghost use Rattle.clause_store.specs.Lits.{var_of, place_of, with_lit, with_lits, clause_of, IsClause, AllBelow};
 ghost use Rattle.clause_store.specs.Kept.{lits_of_codes};
 
 use crate::Lit;
@@ -33,15 +33,30 @@ impl Clause {
     /// The clause of these literals, in whatever order and however often they stand there: None
     /// where a variable stands with both signs, and so one of them is true in any case.
     ///
-    /// Takes a binary search for each literal, and time for moving those behind it.
+    /// A literal whose variable is above those before it costs no search; each other one takes a
+    /// binary search, and time for moving those behind it.
     pub fn new(alloc: Global, lits: &[Lit]) -> Result<Option<Clause>, AllocError>
         ensures { IfOk result (λ clause. clause ≡ clause_of lits.now) }
     {
         let mut kept = SmallVec::new(alloc);
-        for lit in lits {
-            if !put(&mut kept, *lit)? {
-                return Ok(None);
-            }
+        if !put_all(&mut kept, lits)? {
+            return Ok(None);
+        }
+        Ok(Some(Clause { lits: kept }))
+    }
+
+    /// The clause of a literal and these: None where a variable stands with both signs.
+    ///
+    /// The head is put in last, so it costs no search where its variable is the newest.
+    pub fn headed(alloc: Global, head: Lit, lits: &[Lit]) -> Result<Option<Clause>, AllocError>
+        ensures { IfOk result (λ clause. clause ≡ clause_of (head ∷ lits.now)) }
+    {
+        let mut kept = SmallVec::new(alloc);
+        if !put_all(&mut kept, lits)? {
+            return Ok(None);
+        }
+        if !put(&mut kept, head)? {
+            return Ok(None);
         }
         Ok(Some(Clause { lits: kept }))
     }
@@ -92,6 +107,51 @@ fn decoded(alloc: Global, codes: &[u64]) -> Result<SmallVec<Lit, 4>, AllocError>
     Ok(lits)
 }
 
+// Puts literals in their places, and says whether no variable of them has both signs.
+fn put_all(kept: &mut SmallVec<Lit, 4>, lits: &[Lit]) -> Result<bool, AllocError>
+    requires { IsClause kept.old.items }
+    ensures fits { IfOk result (λ yes. IsTrue yes
+        → with_lits kept.old.items lits.now ≡ Some kept.new.items) }
+    ensures in_order { IfOk result (λ yes. IsTrue yes → IsClause kept.new.items) }
+    ensures clashes { IfOk result (λ yes. yes ≡ false
+        → with_lits kept.old.items lits.now ≡ None) }
+{
+    for lit in lits {
+        if !put(kept, *lit)? {
+            return Ok(false);
+        }
+    }
+    Ok(true)
+}
+
+/// Whether the variables rise, and the last one's is above them.
+pub(crate) fn rises(lits: &[Lit], last: Lit) -> bool
+    ensures { IsTrue result → IsClause (lits.now ++ last ∷ []) }
+{
+    let count = lits.len();
+    let mut next = last;
+    for i in 0..count {
+        let lit = lits[count - (i + 1)];
+        if lit.var.0 >= next.var.0 {
+            return false;
+        }
+        next = lit;
+    }
+    true
+}
+
+// Whether all variables are below the literal's: they are where the last one is.
+fn ends_below(lits: &[Lit], lit: Lit) -> bool
+    requires { IsClause lits.now }
+    ensures { IsTrue result → AllBelow (var_of lit) lits.now }
+{
+    let count = lits.len();
+    if count == 0 {
+        return true;
+    }
+    lits[count - 1].var.0 < lit.var.0
+}
+
 // The first place whose variable is not below the literal's.
 fn find_place(lits: &[Lit], lit: Lit) -> usize
     requires { IsClause lits.now }
@@ -107,6 +167,10 @@ fn put(lits: &mut SmallVec<Lit, 4>, lit: Lit) -> Result<bool, AllocError>
         → with_lit lits.old.items lit ≡ Some lits.new.items) }
     ensures clashes { IfOk result (λ yes. yes ≡ false → with_lit lits.old.items lit ≡ None) }
 {
+    if ends_below(lits.as_slice(), lit) {
+        lits.push(lit)?;
+        return Ok(true);
+    }
     let at = find_place(lits.as_slice(), lit);
     if at < lits.len() {
         let other = lits[at];

@@ -27,7 +27,9 @@ pub(crate) fn lit_of_code(code: u64) -> Lit
 pub(crate) fn push_codes(codes: &mut Vec<u64>, lits: &[Lit])
     requires below { AllBelow (2 ^ 63) lits.now }
     requires room { vec_len codes.old + length lits.now ≤ vec_capacity codes.old }
-    ensures { codes.new.items ≡ codes.old.items ++ codes_of lits.now }
+    ensures items { codes.new.items ≡ codes.old.items ++ codes_of lits.now }
+    ensures len { vec_len codes.new ≡ vec_len codes.old + length lits.now }
+    ensures room { vec_capacity codes.old ≤ vec_capacity codes.new }
 {
     for lit in lits {
         push_within(codes, code_of(*lit));

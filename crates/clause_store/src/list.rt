@@ -1,14 +1,14 @@
 //! A growing list of labelled clauses.
-ghost use Rattle.std.specs.Prelude.{◌≡◌, ◌+◌, ◌^◌, ◌<◌, ◌≤◌, [], Some, None, length, slice_range, IfOk, OnOk, OnErr, IfSome, IfNone};
+ghost use Rattle.std.specs.Prelude.{◌≡◌, ◌+◌, ◌^◌, ◌<◌, ◌≤◌, [], ◌∷◌, ◌++◌, Some, None, length, slice_range, IfOk, OnOk, OnErr, IfSome, IfNone};
 ghost use Rattle.std.specs.Option.{option_map};
-ghost use Rattle.clause_store.specs.Lits.{AllBelow, IsClause};
-ghost use Rattle.clause_store.specs.Clauses.{with_var, with_clause, clauses_of, at_id, AllInRange};
+ghost use Rattle.clause_store.specs.Lits.{AllBelow, IsClause, clause_of};
+ghost use Rattle.clause_store.specs.Clauses.{with_var, with_clause, with_structure, clauses_of, at_id, AllInRange};
 ghost use Rattle.clause_store.specs.Kept.{IsCut, start_of, part_of, lits_of_codes};
 
-use crate::clause::Clause;
+use crate::clause::{Clause, rises};
 use crate::codes::{push_codes, push_within};
 use crate::demands::{Demanded, label_at, note};
-use crate::{Label, Var};
+use crate::{Label, Lit, Var};
 use std::alloc::{AllocError, Global};
 use std::marker::Model;
 
@@ -88,6 +88,43 @@ impl ClauseList {
         let end = self.codes.len();
         push_within(&mut self.ends, end);
         Ok(self.ends.len() as u64)
+    }
+
+    /// One more clause of the structure, that of a head and these literals, where there is one.
+    /// After an error the list is as it was.
+    ///
+    /// No `Clause` is made where the variables rise and the head's is the last.
+    pub fn add_headed(&mut self, alloc: Global, head: Lit, lits: &[Lit]) -> Result<(), AllocError>
+        requires { AllBelow self.old.vars (head ∷ lits.now) }
+        ensures ok { OnOk result (self.new
+            ≡ with_structure self.old (clause_of (head ∷ lits.now))) }
+        ensures err { OnErr result (self.new ≡ self.old) }
+    {
+        if rises(lits, head) {
+            return self.add_rising(head, lits);
+        }
+        if let Some(clause) = Clause::headed(alloc, head, lits)? {
+            self.add(clause, Label::Structure)?;
+        }
+        Ok(())
+    }
+
+    // One more clause of the structure: these literals and a last one, in order of variables.
+    fn add_rising(&mut self, last: Lit, lits: &[Lit]) -> Result<(), AllocError>
+        requires below { AllBelow self.old.vars (last ∷ lits.now) }
+        requires in_order { IsClause (lits.now ++ last ∷ []) }
+        ensures ok { OnOk result (self.new
+            ≡ with_clause self.old (lits.now ++ last ∷ []) Label.Structure) }
+        ensures err { OnErr result (self.new ≡ self.old) }
+    {
+        // What may fail comes first.
+        self.codes.reserve(lits.len() + 1)?;
+        self.ends.reserve(1)?;
+        push_codes(&mut self.codes, lits);
+        push_codes(&mut self.codes, &[last]);
+        let end = self.codes.len();
+        push_within(&mut self.ends, end);
+        Ok(())
     }
 
     /// How many clauses there are: the last id.

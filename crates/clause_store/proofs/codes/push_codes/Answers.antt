@@ -11,7 +11,9 @@ loop-lit-preserved c = (
   map-step code_of _ _ c.args.lits.now c.loop-lit.lit-index _ _ (omega arith) c.push_within.ensures.items c.code_of.ensures
       ∙ c.loop-lit.invariant.0,
   omega (arith, c.push_within.ensures.len, c.push_within.ensures.room, c.loop-lit.invariant.1),
+  omega (arith, c.push_within.ensures.len, c.loop-lit.invariant.2),
+  omega (arith, c.push_within.ensures.room, c.loop-lit.invariant.3),
 )
 
-pub returns : goal.returns
-returns c = map-done code_of _ _ c.args.lits.now c.loop-lit.lit-index (omega arith) c.loop-lit.invariant.0
+pub returns-clause-items : goal.returns-clause-items
+returns-clause-items c = map-done code_of _ _ c.args.lits.now c.loop-lit.lit-index (omega arith) c.loop-lit.invariant.0
