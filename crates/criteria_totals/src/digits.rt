@@ -69,7 +69,7 @@ fn repeated(alloc: Global, count: u64, lit: Lit) -> Result<Lits, AllocError>
     for _i in 0..count {
         lits.push(lit)?;
     }
-    Lits::from_slice(alloc, lits.as_slice())
+    Ok(Lits::from_small(lits))
 }
 
 // The lowest digits of a sum. What a digit is more than three is the next one's carry.
@@ -151,7 +151,7 @@ fn push_not_above(
     if i < sorted.len() {
         let mut lits = SmallVec::new(alloc);
         push_negated(&mut lits, above(sorted, i))?;
-        clauses.push(Lits::from_slice(alloc, lits.as_slice())?)?;
+        clauses.push(Lits::from_small(lits))?;
     }
     Ok(())
 }
@@ -163,5 +163,5 @@ fn implied(alloc: Global, given: &[Lit], then: &[Lit]) -> Result<Lits, AllocErro
     let mut lits = SmallVec::new(alloc);
     push_negated(&mut lits, given)?;
     lits.extend_from_slice(then)?;
-    Lits::from_slice(alloc, lits.as_slice())
+    Ok(Lits::from_small(lits))
 }

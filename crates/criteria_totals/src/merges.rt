@@ -40,7 +40,7 @@ pub(crate) fn merge(
     ensures { IfOk result (λ lits. merge_from 1 (length a.now + length b.now) plan.old a.now b.now
         ≡ record { plan = plan.new; answer = lits.items }) }
 {
-    let mut lits = Vec::new(alloc);
+    let mut lits = Vec::with_capacity(alloc, a.len() + b.len())?;
     for k in 0..a.len() + b.len() {
         lits.push(plan.add(at_least(alloc, k + 1, a, b)?)?)?;
     }
@@ -52,11 +52,13 @@ fn at_least(alloc: Global, k: usize, a: &[Lit], b: &[Lit]) -> Result<Gate, Alloc
     requires { k < 2 ^ 63 }
     ensures { IfOk result (λ g. g ≡ at_least k a.now b.now) }
 {
-    let mut on = Vec::new(alloc);
+    // Neither side has more clauses than this.
+    let most = k.min(a.len()) + 1;
+    let mut on = Vec::with_capacity(alloc, most)?;
     for i in 0..k + 1 {
         push_on(alloc, &mut on, k, a, b, i)?;
     }
-    let mut off = Vec::new(alloc);
+    let mut off = Vec::with_capacity(alloc, most)?;
     for i in 0..k {
         push_off(alloc, &mut off, k, a, b, i)?;
     }
@@ -79,7 +81,7 @@ fn push_on(
         let mut lits = SmallVec::new(alloc);
         push_negated(&mut lits, upto(a, i))?;
         push_negated(&mut lits, upto(b, k - i))?;
-        on.push(Lits::from_slice(alloc, lits.as_slice())?)?;
+        on.push(Lits::from_small(lits))?;
     }
     Ok(())
 }
@@ -97,10 +99,10 @@ fn push_off(
     ensures { OnOk result (off.new.items ≡ off.old.items ++ off_clause k a.now b.now i) }
 {
     if i <= a.len() && k - 1 - i <= b.len() {
-        let mut lits: SmallVec<Lit, 2> = SmallVec::new(alloc);
+        let mut lits: SmallVec<Lit, 3> = SmallVec::new(alloc);
         lits.extend_from_slice(above(a, i))?;
         lits.extend_from_slice(above(b, k - 1 - i))?;
-        off.push(Lits::from_slice(alloc, lits.as_slice())?)?;
+        off.push(Lits::from_small(lits))?;
     }
     Ok(())
 }
@@ -128,7 +130,7 @@ fn upto(lits: &[Lit], count: usize) -> &[Lit]
 }
 
 /// The negations of literals.
-pub(crate) fn push_negated(lits: &mut SmallVec<Lit, 2>, more: &[Lit]) -> Result<(), AllocError>
+pub(crate) fn push_negated(lits: &mut SmallVec<Lit, 3>, more: &[Lit]) -> Result<(), AllocError>
     ensures { OnOk result (lits.new.items ≡ lits.old.items ++ map negation more.now) }
 {
     for lit in more {
