@@ -1,5 +1,5 @@
 //! The clauses of one gate.
-ghost use Rattle.std.specs.Prelude.{◌≡◌, [], ◌∷◌, ◌++◌, OnOk};
+ghost use Rattle.std.specs.Prelude.{◌≡◌, ◌++◌, OnOk};
 ghost use Rattle.clause_store.specs.Lits.{negation};
 ghost use Rattle.clause_circuits.specs.Gates.{AllClausesBelow, Partly, with_rules, headed, gate_rules};
 ghost use Rattle.clause_circuits.specs.Shapes.{both, any_of, cover_rules};
