@@ -20,7 +20,8 @@ pub unreachable-requires : goal.unreachable-requires
 unreachable-requires c =
     let w = c.args.watch.now in
     let f = c.requires.conflict in
-    let is_seen = subst (AreSeen c.args.seen.now c.see_all.new.self) (same_Some c.clause.result.now f.0 (sym c.clause.ensures ∙ f.1)) c.in_ok-see_all.ensures.is_seen in
+    let is_seen = subst (AreSeen c.args.seen.now c.see_all.new.self) (same_Some c.clause.result.now f.0 (sym c.clause.ensures ∙ f.1))
+    c.in_ok-see_all.ensures.is_seen in
     start-some w c.requires.right c.requires.above c.args.conflict f.0 f.1 f.2 c.args.seen.now c.see_all.new.self
     c.requires.unseen is_seen
     (subst (NoneSeen (seen_at c.see_all.new.self) w.placed 0) (length-lits w.placed c.trail.result.now c.trail.ensures)
@@ -30,7 +31,8 @@ pub resolve_to_first_uip-requires-clause-top : goal.resolve_to_first_uip-require
 resolve_to_first_uip-requires-clause-top c =
     let w = c.args.watch.now in
     let f = c.requires.conflict in
-    let is_seen = subst (AreSeen c.args.seen.now c.see_all.new.self) (same_Some c.clause.result.now f.0 (sym c.clause.ensures ∙ f.1)) c.in_ok-see_all.ensures.is_seen in
+    let is_seen = subst (AreSeen c.args.seen.now c.see_all.new.self) (same_Some c.clause.result.now f.0 (sym c.clause.ensures ∙ f.1))
+    c.in_ok-see_all.ensures.is_seen in
     start-top w c.requires.right c.requires.above c.args.conflict f.0 f.1 f.2 c.args.seen.now c.see_all.new.self c.requires.unseen
     is_seen c.in-Some.start
     (subst (λ n. IsLastSeen (seen_at c.see_all.new.self) w.placed n (Some c.in-Some.start))
@@ -75,7 +77,8 @@ pub returns-clause-learnt : goal.returns-clause-learnt
 returns-clause-learnt c =
     let w = c.args.watch.now in
     let f = c.requires.conflict in
-    let is_seen = subst (AreSeen c.args.seen.now c.see_all.new.self) (same_Some c.clause.result.now f.0 (sym c.clause.ensures ∙ f.1)) c.in_ok-see_all.ensures.is_seen in
+    let is_seen = subst (AreSeen c.args.seen.now c.see_all.new.self) (same_Some c.clause.result.now f.0 (sym c.clause.ensures ∙ f.1))
+    c.in_ok-see_all.ensures.is_seen in
     let b = subst (λ xs. LeadsToUip w c.see_all.new.self c.resolve_to_first_uip.new.seen xs c.resolve_to_first_uip.new.chain)
     (c.in_ok-push.ensures.ok
     ∙ ap (λ xs. xs ++ c.args.conflict ∷ []) c.new-chain.ensures) c.in_ok-resolve_to_first_uip.ensures in
