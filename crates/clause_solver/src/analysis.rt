@@ -37,7 +37,7 @@ fn resolve(
     ensures same { length seen.new ≡ length seen.old }
 {
     chain.push(id)?;
-    seen.see_all(heap, watch.clause(id).lits())?;
+    seen.see_all(heap, watch.clause(id))?;
     seen.forget(lit.var.0 as usize);
     Ok(())
 }
@@ -96,7 +96,7 @@ fn is_single(watch: &Watch, id: u64) -> bool
     requires known { IsKnown watch.now.clauses id }
     ensures { IfSome (at_id watch.now.clauses id) (λ c. result ≡ (length c == 1)) }
 {
-    watch.clause(id).lits().len() == 1
+    watch.clause(id).len() == 1
 }
 
 /// Resolves a seen literal away where a clause of one literal makes it false at level 0.
@@ -170,7 +170,7 @@ pub fn refute(
 {
     let mut chain = List::new(alloc);
     chain.push(id)?;
-    seen.see_all(heap, watch.clause(id).lits())?;
+    seen.see_all(heap, watch.clause(id))?;
     let mut at = end;
     while let Some(before) = last_seen(seen, watch, at) {
         let p = watch.at(before);
@@ -239,7 +239,7 @@ pub fn analyze(
 {
     let mut chain = List::new(alloc);
     chain.push(conflict)?;
-    seen.see_all(heap, watch.clause(conflict).lits())?;
+    seen.see_all(heap, watch.clause(conflict))?;
     let Some(start) = last_seen(seen, watch, watch.trail().len()) else {
         unreachable!()
     };

@@ -161,16 +161,13 @@ pub fn is_closing(watch: &Watch, assumption: Option<(u64, Lit)>) -> bool
     }
 }
 
-/// The variables whose level is above the given one wait again.
+/// The variables whose level is above the given one wait again, those that got their value last
+/// first.
 fn reinsert_above(watch: &Watch, heap: &mut VariableHeap, level: u64) {
-    let mut at = watch.trail().len();
-    while at > 0 {
-        at -= 1;
-        let last = watch.at(at);
-        if last.level <= level {
-            return;
-        }
-        heap.reinsert(last.lit.var.0 as usize, last.lit.positive);
+    let lits = watch.trail();
+    for at in (watch.len_upto(level)..lits.len()).rev() {
+        let lit = lits[at];
+        heap.reinsert(lit.var.0 as usize, lit.positive);
     }
 }
 

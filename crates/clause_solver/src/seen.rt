@@ -6,7 +6,7 @@ ghost use Rattle.clause_solver.specs.Seen.{seen_at, AreSeen, AreClear, AreListed
 
 use crate::variable_heap::VariableHeap;
 use clause_store::{Lit, Var};
-use clause_watch::Watch;
+use clause_watch::{Code, Watch};
 use std::alloc::{AllocError, Global};
 use std::marker::Model;
 
@@ -65,13 +65,13 @@ impl Seen {
     }
 
     /// Sees the variables of a clause; those that were not seen are bumped.
-    pub fn see_all(&mut self, heap: &mut VariableHeap, lits: &[Lit]) -> Result<(), AllocError>
+    pub fn see_all(&mut self, heap: &mut VariableHeap, lits: &[Code]) -> Result<(), AllocError>
         requires { AllBelow (length self.old) lits.now }
         ensures is_seen { OnOk result (AreSeen self.old self.new lits.now) }
         ensures same { length self.new ≡ length self.old }
     {
-        for lit in lits {
-            self.see(heap, lit.var.0 as usize)?;
+        for code in lits {
+            self.see(heap, code.lit().var.0 as usize)?;
         }
         Ok(())
     }

@@ -56,6 +56,17 @@ impl Code {
     }
 }
 
+/// A number in fewer bits; beyond them want of memory.
+pub fn narrow(number: usize) -> Result<u32, AllocError>
+    ensures ok { IfOk result (λ small. small ≡ number) }
+    ensures cause { IfErr result (λ _. 2 ^ 32 ≤ number) }
+{
+    if number > u32::MAX as usize {
+        return Err(AllocError);
+    }
+    Ok(number as u32)
+}
+
 /// A place that leaves a bit free; beyond 31 bits want of memory.
 fn in_31_bits(place: u32) -> Result<u32, AllocError>
     ensures ok { IfOk result (λ p. (p ≡ place) × (p < 2 ^ 31)) }

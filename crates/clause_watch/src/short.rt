@@ -6,10 +6,11 @@ ghost use Rattle.clause_watch.specs.Lists.{row_of};
 ghost use Rattle.clause_watch.specs.Watching.{IsWatching, IsVisiting, IsVisited};
 
 use crate::arrivals::follow;
+use crate::clause_table::ClauseTable;
 use crate::lists::Entry;
 use crate::queue::{Queue, Visited};
 use crate::trail::Trail;
-use clause_store::{Clause, Lit};
+use clause_store::Lit;
 use std::alloc::AllocError;
 
 impl Queue {
@@ -17,7 +18,7 @@ impl Queue {
     pub fn follow_other(
         &self,
         trail: &mut Trail,
-        clauses: &[Clause],
+        clauses: &ClauseTable,
         lit: Lit,
         at: usize,
         entry: Entry,

@@ -28,16 +28,17 @@ impl Model for WatchedLits {
 /// Appends a literal that is of neither variable.
 fn push_other(
     order: &mut SmallVec<Code, 4>,
-    lit: Lit,
+    code: &Code,
     first: Lit,
     second: Lit,
 ) -> Result<(), AllocError>
-    ensures { OnOk result (PushesOther order.old.items order.new.items lit first second) }
+    ensures { OnOk result (PushesOther order.old.items order.new.items code.now first second) }
 {
+    let lit = code.lit();
     if lit.var.0 == first.var.0 || lit.var.0 == second.var.0 {
         return Ok(());
     }
-    order.push(Code::new(lit)?)?;
+    order.push(code.copy())?;
     Ok(())
 }
 
@@ -45,7 +46,7 @@ impl WatchedLits {
     /// The literals of a clause, two of them first.
     pub fn of_pair(
         alloc: Global,
-        lits: &[Lit],
+        lits: &[Code],
         first: Lit,
         second: Lit,
     ) -> Result<WatchedLits, AllocError>
@@ -57,8 +58,8 @@ impl WatchedLits {
         let mut order = SmallVec::new(alloc);
         order.push(Code::new(first)?)?;
         order.push(Code::new(second)?)?;
-        for lit in lits {
-            push_other(&mut order, *lit, first, second)?;
+        for code in lits {
+            push_other(&mut order, code, first, second)?;
         }
         Ok(WatchedLits { codes: order })
     }

@@ -5,9 +5,10 @@ ghost use Rattle.clause_store.specs.Lits.{var_of};
 ghost use Rattle.clause_watch.specs.Watches.{IsWatch, IsWatcher};
 ghost use Rattle.clause_watch.specs.Watching.{IsWatching};
 
+use crate::clause_table::ClauseTable;
 use crate::queue::Queue;
 use crate::trail::Trail;
-use clause_store::{Clause, Lit};
+use clause_store::Lit;
 use std::alloc::{AllocError, Global};
 
 impl Queue {
@@ -16,7 +17,7 @@ impl Queue {
         &self,
         alloc: Global,
         trail: &Trail,
-        clauses: &[Clause],
+        clauses: &ClauseTable,
         lit: Lit,
     ) -> Result<Vec<u64>, AllocError>
         requires right { IsWatch trail.now.vars clauses.now trail.now.placed }

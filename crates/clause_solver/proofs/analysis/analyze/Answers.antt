@@ -9,10 +9,9 @@ use Rattle.clause_solver.proofs.analysis.analyze.Goals as goal
 
 pub see_all-requires : goal.see_all-requires
 see_all-requires c =
-    subst (λ n. AllBelow n c.lits.result.now) (sym c.requires.in_range)
-    (subst (AllBelow c.args.watch.now.vars) (sym c.lits.ensures.value)
+    subst (λ n. AllBelow n c.clause.result.now) (sym c.requires.in_range)
     (known-below c.args.watch.now.vars c.args.conflict c.args.watch.now.clauses c.clause.result.now c.requires.right.in_order
-    c.requires.right.in_range c.clause.ensures))
+    c.requires.right.in_range c.clause.ensures)
 
 pub last_seen-requires-clause-end : goal.last_seen-requires-clause-end
 last_seen-requires-clause-end c = omega (arith, length-lits c.args.watch.now.placed c.trail.result.now c.trail.ensures)
@@ -21,8 +20,8 @@ pub unreachable-requires : goal.unreachable-requires
 unreachable-requires c =
     let w = c.args.watch.now in
     let f = c.requires.conflict in
-    let is_seen = subst (AreSeen c.args.seen.now c.see_all.new.self) (c.lits.ensures.value
-    ∙ same_Some c.clause.result.now f.0 (sym c.clause.ensures ∙ f.1)) c.in_ok-see_all.ensures.is_seen in
+    let is_seen = subst (AreSeen c.args.seen.now c.see_all.new.self) (same_Some c.clause.result.now f.0 (sym c.clause.ensures ∙ f.1))
+    c.in_ok-see_all.ensures.is_seen in
     start-some w c.requires.right c.requires.above c.args.conflict f.0 f.1 f.2 c.args.seen.now c.see_all.new.self
     c.requires.unseen is_seen
     (subst (NoneSeen (seen_at c.see_all.new.self) w.placed 0) (length-lits w.placed c.trail.result.now c.trail.ensures)
@@ -32,8 +31,8 @@ pub resolve_to_first_uip-requires-clause-top : goal.resolve_to_first_uip-require
 resolve_to_first_uip-requires-clause-top c =
     let w = c.args.watch.now in
     let f = c.requires.conflict in
-    let is_seen = subst (AreSeen c.args.seen.now c.see_all.new.self) (c.lits.ensures.value
-    ∙ same_Some c.clause.result.now f.0 (sym c.clause.ensures ∙ f.1)) c.in_ok-see_all.ensures.is_seen in
+    let is_seen = subst (AreSeen c.args.seen.now c.see_all.new.self) (same_Some c.clause.result.now f.0 (sym c.clause.ensures ∙ f.1))
+    c.in_ok-see_all.ensures.is_seen in
     start-top w c.requires.right c.requires.above c.args.conflict f.0 f.1 f.2 c.args.seen.now c.see_all.new.self c.requires.unseen
     is_seen c.in-Some.start
     (subst (λ n. IsLastSeen (seen_at c.see_all.new.self) w.placed n (Some c.in-Some.start))
@@ -78,8 +77,8 @@ pub returns-clause-learnt : goal.returns-clause-learnt
 returns-clause-learnt c =
     let w = c.args.watch.now in
     let f = c.requires.conflict in
-    let is_seen = subst (AreSeen c.args.seen.now c.see_all.new.self) (c.lits.ensures.value
-    ∙ same_Some c.clause.result.now f.0 (sym c.clause.ensures ∙ f.1)) c.in_ok-see_all.ensures.is_seen in
+    let is_seen = subst (AreSeen c.args.seen.now c.see_all.new.self) (same_Some c.clause.result.now f.0 (sym c.clause.ensures ∙ f.1))
+    c.in_ok-see_all.ensures.is_seen in
     let b = subst (λ xs. LeadsToUip w c.see_all.new.self c.resolve_to_first_uip.new.seen xs c.resolve_to_first_uip.new.chain)
     (c.in_ok-push.ensures.ok
     ∙ ap (λ xs. xs ++ c.args.conflict ∷ []) c.new-chain.ensures) c.in_ok-resolve_to_first_uip.ensures in
@@ -92,4 +91,4 @@ returns-clause-learnt c =
     is_seen) c.backjump_level-backjump.result (subst (λ ls. IsBackjumpLevel w.placed ls c.backjump_level-backjump.result)
     (c.as_slice-2.ensures.value
     ∙ sym c.as_slice-3.ensures.value) c.backjump_level-backjump.ensures) c.minimize.new.chain refl in
-    record { in_order = c.lits-2.ensures.in_order; in_range = l.0; derived = l.1; useful = l.2; below = l.3; addable = l.4 }
+    record { in_order = c.lits.ensures.in_order; in_range = l.0; derived = l.1; useful = l.2; below = l.3; addable = l.4 }

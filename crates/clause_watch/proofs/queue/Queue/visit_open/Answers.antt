@@ -1,11 +1,11 @@
-use Rattle.std.proofs.Common.{◌≡◌, ◌<◌, length, true, refl, sym, ap, ◌∙◌, subst, arith}
+use Rattle.std.proofs.Common.{◌≡◌, length, true, sym, ap, ◌∙◌, subst, arith}
 use Rattle.std.specs.Prelude.{slice_get}
-use Rattle.std.proofs.lemmas.Option.{same_Some, slice_get_read}
-use Rattle.clause_store.specs.Lits.{has}
+use Rattle.std.proofs.lemmas.Option.{same_Some}
+use Rattle.clause_store.specs.Lits.{has, IsClause}
 use Rattle.clause_watch.specs.Picks.{WatchesPair}
 use Rattle.clause_watch.specs.Watching.{IsKept}
 use Rattle.clause_watch.proofs.Propagated.{clause-in, has-below}
-use Rattle.clause_watch.proofs.Rows.{at-within, index-below}
+use Rattle.clause_watch.proofs.Rows.{index-below}
 use Rattle.clause_watch.proofs.WatchingLaws.{kept-listed}
 use Rattle.clause_watch.proofs.NewVisits.{open-arrived, at-has-at}
 use Rattle.clause_watch.proofs.queue.Queue.visit_open.Goals as goal
@@ -60,6 +60,19 @@ list_pair-requires-clause-has_second c =
     let is = clause-in t.vars cs (length watched_lits) p.0 c.requires.right.in_order c.requires.right.in_range p.1 in
     at-has-at cs c.len-place.result (length watched_lits) p.0 c.args.second n p.1 p.2.has_second
 
+pub of_pair-requires-clause-in_order : goal.of_pair-requires-clause-in_order
+of_pair-requires-clause-in_order c =
+    let t = c.args.trail.now in
+    let q = c.args.self.now in
+    let cs = c.args.clauses.now in
+    let table = q.lists in
+    let watched_lits = q.watched_lits.items in
+    let n : c.len-place.result ≡ length watched_lits = omega (arith, c.len-place.ensures, q.watched_lits.ok.0) in
+    let p = c.requires.pair in
+    let is = clause-in t.vars cs (length watched_lits) p.0 c.requires.right.in_order c.requires.right.in_range p.1 in
+    let same : c.lits.result.now ≡ p.0 = same_Some _ p.0 (sym c.lits.ensures ∙ ap (slice_get cs) n ∙ p.1) in
+    subst IsClause (sym same) is.0
+
 pub of_pair-requires-clause-first : goal.of_pair-requires-clause-first
 of_pair-requires-clause-first c =
     let t = c.args.trail.now in
@@ -70,9 +83,7 @@ of_pair-requires-clause-first c =
     let n : c.len-place.result ≡ length watched_lits = omega (arith, c.len-place.ensures, q.watched_lits.ok.0) in
     let p = c.requires.pair in
     let is = clause-in t.vars cs (length watched_lits) p.0 c.requires.right.in_order c.requires.right.in_range p.1 in
-    let within : c.len-place.result < length cs = let h = at-within cs (length watched_lits) p.0 p.1 in omega (arith, n, h) in
-    let here = slice_get_read cs (length cs) c.len-place.result _ refl within c.index-clauses-place.is in
-    let same : c.lits.result.now ≡ p.0 = c.lits.ensures.value ∙ same_Some _ p.0 (sym here ∙ ap (slice_get cs) n ∙ p.1) in
+    let same : c.lits.result.now ≡ p.0 = same_Some _ p.0 (sym c.lits.ensures ∙ ap (slice_get cs) n ∙ p.1) in
     subst (λ x. has x c.args.first ≡ true) (sym same) p.2.has_first
 
 pub of_pair-requires-clause-second : goal.of_pair-requires-clause-second
@@ -85,9 +96,7 @@ of_pair-requires-clause-second c =
     let n : c.len-place.result ≡ length watched_lits = omega (arith, c.len-place.ensures, q.watched_lits.ok.0) in
     let p = c.requires.pair in
     let is = clause-in t.vars cs (length watched_lits) p.0 c.requires.right.in_order c.requires.right.in_range p.1 in
-    let within : c.len-place.result < length cs = let h = at-within cs (length watched_lits) p.0 p.1 in omega (arith, n, h) in
-    let here = slice_get_read cs (length cs) c.len-place.result _ refl within c.index-clauses-place.is in
-    let same : c.lits.result.now ≡ p.0 = c.lits.ensures.value ∙ same_Some _ p.0 (sym here ∙ ap (slice_get cs) n ∙ p.1) in
+    let same : c.lits.result.now ≡ p.0 = same_Some _ p.0 (sym c.lits.ensures ∙ ap (slice_get cs) n ∙ p.1) in
     subst (λ x. has x c.args.second ≡ true) (sym same) p.2.has_second
 
 pub returns-in_err-list_pair-clause-watching : goal.returns-in_err-list_pair-clause-watching
@@ -131,9 +140,7 @@ returns-clause-watching c =
     let n : c.len-place.result ≡ length watched_lits = omega (arith, c.len-place.ensures, q.watched_lits.ok.0) in
     let p = c.requires.pair in
     let is = clause-in t.vars cs (length watched_lits) p.0 c.requires.right.in_order c.requires.right.in_range p.1 in
-    let within : c.len-place.result < length cs = let h = at-within cs (length watched_lits) p.0 p.1 in omega (arith, n, h) in
-    let here = slice_get_read cs (length cs) c.len-place.result _ refl within c.index-clauses-place.is in
-    let same : c.lits.result.now ≡ p.0 = c.lits.ensures.value ∙ same_Some _ p.0 (sym here ∙ ap (slice_get cs) n ∙ p.1) in
+    let same : c.lits.result.now ≡ p.0 = same_Some _ p.0 (sym c.lits.ensures ∙ ap (slice_get cs) n ∙ p.1) in
     open-arrived cs t t table c.list_pair.new.lists watched_lits c.push.new.self.items q.head c.len-place.result p.0 c.requires.right
     c.requires.watching n (ap (slice_get cs) n ∙ p.1) c.args.first c.args.second c.in_ok-order.order p.2 c.list_pair.ensures.grown
     c.in_ok-list_pair.ensures.first c.in_ok-list_pair.ensures.second
