@@ -115,6 +115,12 @@ def virtuals(n):
     return files | recipes(p=['version("1")'] + ['depends_on("v%d")' % j for j in range(n)]), [*SOLVE, "p"]
 
 
+def edge_virtuals(n):
+    """One package asks for them, and another one provides them."""
+    asked, provided = (['version("1")'] + ['%s("v%d")' % (word, i) for i in range(n)] for word in ("depends_on", "provides"))
+    return recipes(p=asked, q=provided), [*SOLVE, "p"]
+
+
 # ---- one package
 
 
@@ -129,6 +135,10 @@ def range_conflicts(n):
         low, other = drawn.randrange(n), drawn.randrange(n)
         lines.append('conflicts("@1.%d:1.%d", when="@1.%d:1.%d")' % (low, low + n // 4, other, other + n // 4))
     return recipes(p=lines), [*SOLVE, "p"]
+
+
+def directives(n):
+    return one('variant("a", default=True)', *['conflicts("+a", when="@2")'] * n)
 
 
 def variants(n):

@@ -62,7 +62,7 @@ module _ (problem : Problem) (table : Table) where
         (filter (λ row. has_of kind row.kinds && may_ask problem (names_for table) child row) (depends_at problem name))))
 
     -- over the rows of a package it is the rule of the edge
-    pub extra_edge-same : (child : Text) → extra_edge_said problem table condition (map (asking_row problem table) (depends_at problem name)) name child
+    pub extra_edge-same : (child : Text) → extra_edge_said problem table condition (map (asking_row problem table) (depends_at problem name)) (problem, name) name child
         ≡ plain_term table condition (extra_edge_rule problem (names_for table) (virtuals_on table name child) name child)
     extra_edge-same child = λ i. both_statements
         (both_statements (both_statements (kind-same edge.Build child i) (kind-same edge.Link child i)) (kind-same edge.Run child i))

@@ -1,6 +1,8 @@
 pub mod AskedPaths
 mod Asking
 mod Few
+mod Named
+mod Numbers
 pub mod Lists
 pub mod Plain
 pub mod PlainTogether

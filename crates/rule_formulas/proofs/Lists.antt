@@ -1,8 +1,11 @@
 -- Lists of what a table offers, and rules that speak of no condition.
 use Prim.Native.Nat.{zero, suc}
-use Rattle.std.proofs.Common.{◌≡◌, refl, sym, ap, ◌∙◌, ℕ, ◌/◌, Bool, true, false, List, [], ◌∷◌, ◌++◌, map, filter, take, drop, length, nat_lt}
+use Rattle.std.proofs.Common.{◌≡◌, refl, sym, ap, ◌∙◌, ℕ, ◌/◌, Bool, true, false, ◌||◌, List, [], ◌∷◌, ◌++◌, map, filter, Option, Some, None, take, drop, length, nat_lt}
 use Rattle.std.proofs.lemmas.List.{map-append}
 use Rattle.std.specs.List.{list_any}
+use Rattle.std.specs.Borrow.{Bor}
+use Rattle.std.specs.Option.{is_some, option_copied, option_to_list}
+use Rattle.problem.specs.Closure.{is_filled}
 use Rattle.std.specs.Str.{bytes_eq}
 use Rattle.std.specs.Prelude.{if◌then◌else◌}
 use Rattle.clause_store.specs.declared.Lit.{Lit}
@@ -13,7 +16,7 @@ use Rattle.condition_rules.specs.Worlds.{World}
 use Rattle.recipe_data.specs.OfSpecGrammar.Condition.{Condition}
 use Rattle.recipe_data.specs.declared.recipe.RequireRow.{RequireRow}
 use Rattle.graph_core.specs.Graphs.{Text}
-use Rattle.literal_table.specs.Choices.{Choices, choice_values}
+use Rattle.literal_table.specs.Choices.{Choices, choice_values, passing}
 use Rattle.literal_table.specs.Tables.{Table}
 use Rattle.problem.specs.Problems.{Problem, world_of}
 use Rattle.graph_formulas.specs.Facts.{GraphWord, word_said}
@@ -31,6 +34,30 @@ pub any-offered : (child : Text) (cs : Choices Text)
     → list_any (λ (c : Text × Lit). bytes_eq child c.0) cs ≡ list_any (bytes_eq child) (choice_values cs)
 any-offered child [] = refl
 any-offered child (c ∷ cs) = rw (any-offered child cs) refl
+
+-- whether some are left of those that pass
+kept-any : (text : Text) (cs : Choices Text) → is_filled (passing (bytes_eq text) cs) ≡ list_any (bytes_eq text) (choice_values cs)
+kept-any text [] = refl
+kept-any text (c ∷ cs) = kept-any-cases (bytes_eq text c.0) (kept-any text cs)
+  where
+    kept-any-cases : (b : Bool) → is_filled (passing (bytes_eq text) cs) ≡ list_any (bytes_eq text) (choice_values cs)
+        → is_filled (if b then c ∷ passing (bytes_eq text) cs else passing (bytes_eq text) cs)
+        ≡ (b || list_any (bytes_eq text) (choice_values cs))
+    kept-any-cases true rest = refl
+    kept-any-cases false rest = rest
+
+filled-option : (o : Option (Text × Lit)) → is_some o ≡ is_filled (option_to_list o)
+filled-option None = refl
+filled-option (Some c) = refl
+
+pub some-copied : (o : Option (Bor (Text × Lit))) → is_some o ≡ is_some (option_copied o)
+some-copied None = refl
+some-copied (Some c) = refl
+
+-- a name is one of the choices where one is found
+pub any-found : (text : Text) (cs : Choices Text) (o : Option (Text × Lit)) → passing (bytes_eq text) cs ≡ option_to_list o
+    → is_some o ≡ list_any (bytes_eq text) (choice_values cs)
+any-found text cs o found = filled-option o ∙ ap is_filled (sym found) ∙ kept-any text cs
 
 -- a list in two steps
 pub over-mapped : {A B : Type 0} (f : B → Statement) (g : A → B) (xs : List A) → map (λ x. f (g x)) xs ≡ map f (map g xs)

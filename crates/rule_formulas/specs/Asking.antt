@@ -51,8 +51,9 @@ module _ (problem : Problem) (table : Table) (condition : Text → Condition →
   abbrev pub kind_said : EdgeKind → Text → Text → Statement
   kind_said kind name child = implication_of (plain_said table (fact (has_edge name child (kinds_of kind)))) (asking_said kind name child)
 
-  -- the edge has no kind and no virtual that none asks for
-  abbrev pub extra_edge_said : Text → Text → Statement
-  extra_edge_said name child = both_statements
+  -- the edge has no kind that none of the rows asks for, and no virtual that none of those of the named package does
+  abbrev pub extra_edge_said : Problem × Text → Text → Text → Statement
+  extra_edge_said named name child = both_statements
       (both_statements (both_statements (kind_said edge.Build name child) (kind_said edge.Link name child)) (kind_said edge.Run name child))
-      (plain_term table condition (each_keeps (virtual_rule problem (names_for table) name child) (virtuals_on table name child)))
+      (plain_term table condition
+      (each_keeps (virtual_rule named.0 (names_for table) named.1 child) (virtuals_on table named.1 child)))

@@ -3,4 +3,5 @@ pub mod Paths
 pub mod Terms
 pub mod Governing
 pub mod Asking
+pub mod Named
 pub mod OfWordFormulas

@@ -62,7 +62,7 @@ impl<'a> AskingRow<'a> {
 }
 
 /// The name is one of these choices.
-pub(crate) fn offers(choices: &[(Word, Lit)], name: &str) -> bool
+fn offers(choices: &[(Word, Lit)], name: &str) -> bool
     ensures { result ≡ list_any (λ choice. bytes_eq name.now choice.0) choices.now }
 {
     choices.iter().any(|choice| name == choice.0.as_str())

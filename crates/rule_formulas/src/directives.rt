@@ -12,13 +12,14 @@ ghost use Rattle.rule_formulas.specs.Terms.{choice_said};
 
 use crate::choices::{one_formula, some_formula};
 use crate::holds_formula;
+use crate::numbered::{conflicts_with, depends_with, requirements_with};
 use clause_formulas::Formula;
 use graph_levels::PathLits;
 use literal_table::LiteralTable;
-use problem::{Problem, conflicts_at, depends_at, requirements_at};
+use problem::Problem;
 use recipe_data::{ConflictRow, DependRow, RequireRow};
 use std::alloc::{AllocError, Global};
-use word_formulas::{MetConditions, constraint_formula, each_where, edge_formula};
+use word_formulas::{MetConditions, constraint_formula, each, edge_formula};
 
 /// Where the condition of the row is met, its edge is there, and the node that it asks for suits
 /// it.
@@ -120,10 +121,9 @@ fn depends_formula<C: MetConditions>(
         (constraint_rule problem.now (names_for table.now) name.now row))
         (filter (λ row. row.number == number) (depends_at problem.now name.now)))) }
 {
-    each_where(
+    each(
         alloc,
-        depends_at(problem, name),
-        |row| row.number == number,
+        depends_with(problem, name, number),
         |row| depend_formula(alloc, problem, table, paths, conditions, name, row),
     )
 }
@@ -143,10 +143,9 @@ fn conflicts_formula<C: MetConditions>(
         (each_keeps (conflict_rule problem.now (names_for table.now) name.now)
         (filter (λ row. row.number == number) (conflicts_at problem.now name.now)))) }
 {
-    each_where(
+    each(
         alloc,
-        conflicts_at(problem, name),
-        |row| row.number == number,
+        conflicts_with(problem, name, number),
         |row| conflict_formula(alloc, problem, table, paths, conditions, name, row),
     )
 }
@@ -166,10 +165,9 @@ fn requirements_formula<C: MetConditions>(
         (each_keeps (requirement_rule problem.now (names_for table.now) name.now)
         (filter (λ row. row.number == number) (requirements_at problem.now name.now)))) }
 {
-    each_where(
+    each(
         alloc,
-        requirements_at(problem, name),
-        |row| row.number == number,
+        requirements_with(problem, name, number),
         |row| requirement_formula(alloc, problem, table, paths, conditions, name, row),
     )
 }

@@ -11,6 +11,7 @@ ghost use Rattle.rule_formulas.specs.Terms.{plain_term, kinds_of, has_of};
 
 use crate::asking_rows::{AskingRow, asking_rows};
 use crate::extra_virtuals::virtuals_formula;
+use crate::named_rows::NamedRows;
 use clause_formulas::Formula;
 use graph_core::Kinds;
 use literal_table::{EdgeLits, LiteralTable};
@@ -133,11 +134,12 @@ fn extra_edge_formula<C: MetConditions>(
     table: &LiteralTable,
     conditions: &C,
     rows: &[AskingRow],
+    named: &NamedRows,
     name: &str,
     child: &str,
 ) -> Result<Formula, AllocError>
     ensures { IfOk result (λ formula. formula ≡ extra_edge_said problem.now table.now
-        (C.condition_of conditions.now) rows.now name.now child.now) }
+        (C.condition_of conditions.now) rows.now named.now name.now child.now) }
 {
     let build = kind_formula(
         alloc,
@@ -171,7 +173,7 @@ fn extra_edge_formula<C: MetConditions>(
     )?;
     let most = Formula::both(alloc, build, link)?;
     let kinds = Formula::both(alloc, most, run)?;
-    let virtuals = virtuals_formula(alloc, problem, table, conditions, name, child)?;
+    let virtuals = virtuals_formula(alloc, table, conditions, named, child)?;
     Formula::both(alloc, kinds, virtuals)
 }
 
@@ -188,11 +190,12 @@ fn edges_formula<C: MetConditions>(
     table: &LiteralTable,
     conditions: &C,
     rows: &[AskingRow],
+    named: &NamedRows,
     name: &str,
 ) -> Result<Formula, AllocError>
-    ensures { IfOk result (λ formula. formula
-        ≡ all_statements (map (extra_edge_said problem.now table.now
-        (C.condition_of conditions.now) rows.now name.now) (children_of table.now name.now))) }
+    ensures { IfOk result (λ formula. formula ≡ all_statements (map (extra_edge_said problem.now
+        table.now (C.condition_of conditions.now) rows.now named.now name.now)
+        (children_of table.now name.now))) }
 {
     each_where(
         alloc,
@@ -204,6 +207,7 @@ fn edges_formula<C: MetConditions>(
             table,
             conditions,
             rows,
+            named,
             name,
             edge.child.as_str(),
         ),
@@ -223,5 +227,14 @@ pub fn extra_edges_formula<C: MetConditions>(
         (children_of table.now name.now) name.now)) }
 {
     let rows = asking_rows(alloc, problem, table, name)?;
-    edges_formula(alloc, problem, table, conditions, rows.as_slice(), name)
+    let named = NamedRows::new(alloc, problem, name)?;
+    edges_formula(
+        alloc,
+        problem,
+        table,
+        conditions,
+        rows.as_slice(),
+        &named,
+        name,
+    )
 }

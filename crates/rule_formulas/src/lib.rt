@@ -19,6 +19,8 @@ mod directives;
 mod extra_edges;
 mod extra_virtuals;
 mod holds;
+mod named_rows;
+mod numbered;
 mod theorems;
 mod together;
 mod used;

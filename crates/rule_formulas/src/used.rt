@@ -9,20 +9,24 @@ ghost use Rattle.graph_formulas.specs.Words.{names_for};
 ghost use Rattle.literal_table.specs.Tables.{table_names};
 ghost use Rattle.rule_formulas.specs.Terms.{plain_term, no_conditions};
 
-use crate::asking_rows::offers;
 use clause_formulas::Formula;
 use clause_store::Lit;
 use literal_table::LiteralTable;
 use plain_data::Word;
 use std::alloc::{AllocError, Global};
-use word_formulas::{each, has_virtual, provider_formula, some_where};
+use word_formulas::{each, has_virtual, provider_formula, some_where, virtual_choice};
 
 /// An edge from the name to the provider may name the virtual.
 fn may_use(table: &LiteralTable, virtual_name: &Word, provider: &Word, name: &Word) -> bool
     ensures { result ≡ may_use table.now (virtual_name.now, provider.now) name.now }
 {
-    let virtuals = table.virtuals(name.as_str(), provider.as_str());
-    offers(virtuals, virtual_name.as_str())
+    let choice = virtual_choice(
+        table,
+        name.as_str(),
+        provider.as_str(),
+        virtual_name.as_str(),
+    );
+    choice.is_some()
 }
 
 /// An edge from the name to the provider names the virtual.

@@ -27,7 +27,7 @@ pub use compilers::compiler_formula;
 pub use directives::{
     constraint_formula, edge_formula, edge_to_formula, suits_asked_formula, suits_formula,
 };
-pub use edges::{has_edge, has_virtual};
+pub use edges::{has_edge, has_virtual, virtual_choice};
 pub use extra_edges::asks_formula;
 pub use facts::{
     compiler_passes, given, has_variant, is_there, origin_passes, os_passes, prefix_passes,

@@ -22,8 +22,8 @@ returns g c =
     let p = λ (row : ConflictRow). row.number == c.args.number in
     let rule = λ (row : ConflictRow). conflict_rule problem (names_for table) name row in
     let formula = λ (row : ConflictRow). term_formula path condition table (conflict_rule problem (names_for table) name row) in
-    ok-same c.each_where.result (all_statements (map formula (filter p c.conflicts_at.result.now)))
+    ok-same c.each.result (all_statements (map formula c.conflicts_with.result.now))
     (term_formula path condition table (each_keeps rule (filter p (conflicts_at problem name))))
-    (ap (λ (l : List ConflictRow). all_statements (map formula (filter p l))) c.conflicts_at.ensures
+    (ap (λ (l : List ConflictRow). all_statements (map formula l)) c.conflicts_with.ensures
     ∙ sym (each-said (term_said path condition table) rule (filter p (conflicts_at problem name))))
-    (c.each_where.ensures p formula (λ x b says. search rules) (λ x r says. search rules))
+    (c.each.ensures formula (λ x r says. search rules))

@@ -25,8 +25,8 @@ returns g c =
     (constraint_rule problem (names_for table) name row) in
     let formula = λ (row : DependRow). term_formula path condition table
     (both_of (edge_rule problem (names_for table) name row) (constraint_rule problem (names_for table) name row)) in
-    ok-same c.each_where.result (all_statements (map formula (filter p c.depends_at.result.now)))
+    ok-same c.each.result (all_statements (map formula c.depends_with.result.now))
     (term_formula path condition table (each_keeps rule (filter p (depends_at problem name))))
-    (ap (λ (l : List DependRow). all_statements (map formula (filter p l))) c.depends_at.ensures
+    (ap (λ (l : List DependRow). all_statements (map formula l)) c.depends_with.ensures
     ∙ sym (each-said (term_said path condition table) rule (filter p (depends_at problem name))))
-    (c.each_where.ensures p formula (λ x b says. search rules) (λ x r says. search rules))
+    (c.each.ensures formula (λ x r says. search rules))

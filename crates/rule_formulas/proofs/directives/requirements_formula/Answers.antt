@@ -22,8 +22,8 @@ returns g c =
     let p = λ (row : RequireRow). row.number == c.args.number in
     let rule = λ (row : RequireRow). requirement_rule problem (names_for table) name row in
     let formula = λ (row : RequireRow). term_formula path condition table (requirement_rule problem (names_for table) name row) in
-    ok-same c.each_where.result (all_statements (map formula (filter p c.requirements_at.result.now)))
+    ok-same c.each.result (all_statements (map formula c.requirements_with.result.now))
     (term_formula path condition table (each_keeps rule (filter p (requirements_at problem name))))
-    (ap (λ (l : List RequireRow). all_statements (map formula (filter p l))) c.requirements_at.ensures
+    (ap (λ (l : List RequireRow). all_statements (map formula l)) c.requirements_with.ensures
     ∙ sym (each-said (term_said path condition table) rule (filter p (requirements_at problem name))))
-    (c.each_where.ensures p formula (λ x b says. search rules) (λ x r says. search rules))
+    (c.each.ensures formula (λ x r says. search rules))

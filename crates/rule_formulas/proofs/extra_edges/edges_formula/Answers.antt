@@ -18,8 +18,8 @@ returns g c =
     let name = c.args.name.now in
     let p = λ (e : EdgeLits). bytes_eq e.parent name in
     let child = λ (e : EdgeLits). e.child in
-    let said = λ (n : Text). extra_edge_said problem table condition rows name n in
-    let formula = λ (e : EdgeLits). extra_edge_said problem table condition rows name e.child in
+    let said = λ (n : Text). extra_edge_said problem table condition rows c.args.named.now name n in
+    let formula = λ (e : EdgeLits). extra_edge_said problem table condition rows c.args.named.now name e.child in
     ok-same c.each_where.result (all_statements (map formula (filter p c.edges.result.now)))
     (all_statements (map said (children_of table name)))
     (ap (λ (l : List EdgeLits). all_statements (map formula (filter p l))) c.edges.ensures.edges

@@ -1,5 +1,7 @@
 use Rattle.std.proofs.Common.{◌∙◌}
 use Rattle.clause_formulas.specs.Statements.{both_statements}
+use Rattle.graph_core.specs.Graphs.{Text}
+use Rattle.problem.specs.Problems.{Problem}
 use Rattle.graph_formulas.specs.Words.{names_for}
 use Rattle.graph_formulas.specs.Edges.{virtual_rule}
 use Rattle.graph_formulas.specs.Laws.{virtuals_on}
@@ -17,6 +19,7 @@ returns g c =
     let problem = c.args.problem.now in
     let condition = g.C.MetConditions.condition_of c.args.conditions.now in
     let rows = c.args.rows.now in
+    let named : Problem × Text = c.args.named.now in
     let name = c.args.name.now in
     let child = c.args.child.now in
     let said = λ (kind : EdgeKind). kind_said problem table condition rows kind name child in
@@ -26,8 +29,8 @@ returns g c =
     let most = c.in_ok-most.ensures ∙ both-same _ _ _ _ build link in
     let kinds = c.in_ok-kinds.ensures ∙ both-same _ _ _ _ most run in
     let virtuals = ok-is c.virtuals_formula.result c.in_ok-virtuals.virtuals
-    (plain_term table condition (each_keeps (virtual_rule problem (names_for table) name child) (virtuals_on table name child)))
+    (plain_term table condition (each_keeps (virtual_rule named.0 (names_for table) named.1 child) (virtuals_on table named.1 child)))
     c.in_ok-virtuals.was c.virtuals_formula.ensures in
     ok-same c.both-3.result (both_statements c.in_ok-kinds.kinds c.in_ok-virtuals.virtuals)
-    (extra_edge_said problem table condition rows name child)
+    (extra_edge_said problem table condition rows named name child)
     (both-same _ _ _ _ kinds virtuals) c.both-3.ensures

@@ -8,6 +8,7 @@ use Rattle.graph_formulas.specs.Edges.{extra_edge_rule, extra_edges_rule}
 use Rattle.graph_formulas.specs.Laws.{virtuals_on}
 use Rattle.graph_formulas.specs.Terms.{term_said}
 use Rattle.graph_formulas.specs.Words.{names_for}
+use Rattle.problem.specs.Problems.{Problem}
 use Rattle.word_formulas.specs.Builders.{no_paths}
 use Rattle.word_formulas.proofs.Steps.{ok-same, each-said}
 use Rattle.rule_formulas.specs.Asking.{extra_edge_said}
@@ -23,11 +24,12 @@ returns g c =
     let name = c.args.name.now in
     let children = children_of table name in
     let rule = λ (n : Text). extra_edge_rule problem (names_for table) (virtuals_on table name n) name n in
-    let said = λ (rows : List (DependRow × Option (Choices Text))).
-    all_statements (map (extra_edge_said problem table condition rows name) children) in
-    ok-same c.edges_formula.result (said c.as_slice.result.now)
+    let said = λ (rows : List (DependRow × Option (Choices Text))) (named : Problem × Text).
+    all_statements (map (extra_edge_said problem table condition rows named name) children) in
+    ok-same c.edges_formula.result (said c.as_slice.result.now c.in_ok-named.named)
     (plain_term table condition (extra_edges_rule problem (names_for table) (virtuals_on table name) children name))
-    (ap said (c.as_slice.ensures.value ∙ c.in_ok-rows.ensures)
+    (ap (said c.as_slice.result.now) c.in_ok-named.ensures
+    ∙ ap (λ (rows : List (DependRow × Option (Choices Text))). said rows (problem, name)) (c.as_slice.ensures.value ∙ c.in_ok-rows.ensures)
     ∙ ap (λ (of : Text → Statement). all_statements (map of children)) (λ i n. extra_edge-same problem table condition name n i)
     ∙ sym (each-said (term_said no_paths condition table) rule children))
     c.edges_formula.ensures

@@ -1,5 +1,7 @@
 use Rattle.std.proofs.Common.{rules, sym, ap, ◌∙◌, map, filter, List}
+use Rattle.std.specs.Borrow.{Bor}
 use Rattle.clause_formulas.specs.Statements.{any_statement}
+use Rattle.graph_core.specs.Graphs.{Text}
 use Rattle.recipe_data.specs.declared.recipe.DependRow.{DependRow}
 use Rattle.problem.specs.Problems.{depends_at}
 use Rattle.graph_formulas.specs.Edges.{names_virtual}
@@ -8,18 +10,24 @@ use Rattle.graph_formulas.specs.Terms.{term_said, met_rule}
 use Rattle.word_formulas.specs.Builders.{no_paths}
 use Rattle.word_formulas.proofs.Steps.{ok-same, some-said}
 use Rattle.rule_formulas.specs.Terms.{plain_term}
+use Rattle.rule_formulas.proofs.Lists.{over-mapped}
 use Rattle.rule_formulas.proofs.extra_virtuals.rows_formula.Goals as goal
 
 pub returns : goal.returns
 returns g c = λ table.
-    let problem = c.args.problem.now in
     let condition = g.C.MetConditions.condition_of c.args.conditions.now in
-    let name = c.args.name.now in
-    let p = names_virtual problem c.args.virtual_name.now in
+    let problem = c.args.rows.now.0 in
+    let name = c.args.rows.now.1 in
+    let asking = filter (names_virtual problem c.args.virtual_name.now) (depends_at problem name) in
     let rule = λ (row : DependRow). met_rule name row.when in
-    let formula = λ (row : DependRow). condition name row.when in
-    ok-same c.some_where.result (any_statement (map formula (filter p c.depends_at.result.now)))
-    (plain_term table condition (some rule (filter p (depends_at problem name))))
-    (ap (λ (l : List DependRow). any_statement (map formula (filter p l))) c.depends_at.ensures
-    ∙ sym (some-said (term_said no_paths condition table) rule (filter p (depends_at problem name))))
-    (c.some_where.ensures p formula (λ x b says. search rules) (λ x r says. search rules))
+    let own = λ (row : Bor DependRow). row.now in
+    let said = λ (n : Text) (row : DependRow). condition n row.when in
+    let formula = λ (row : Bor DependRow). condition c.name-name.result.now row.now.when in
+    ok-same c.some.result (any_statement (map formula c.as_slice.result.now))
+    (plain_term table condition (some rule asking))
+    (ap (λ (rows : List (Bor DependRow)). any_statement (map formula rows)) c.as_slice.ensures.value
+    ∙ ap any_statement (over-mapped (said c.name-name.result.now) own c.in_ok-asking.asking.items)
+    ∙ ap (λ (rows : List DependRow). any_statement (map (said c.name-name.result.now) rows)) c.in_ok-asking.ensures
+    ∙ ap (λ (n : Text). any_statement (map (said n) asking)) c.name-name.ensures
+    ∙ sym (some-said (term_said no_paths condition table) rule asking))
+    (c.some.ensures formula (λ x r says. search rules))

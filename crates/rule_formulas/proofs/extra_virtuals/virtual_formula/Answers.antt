@@ -16,21 +16,25 @@ use Rattle.rule_formulas.proofs.extra_virtuals.virtual_formula.Goals as goal
 pub returns : goal.returns
 returns g c =
     let table = c.args.table.now in
-    let problem = c.args.problem.now in
     let condition = g.C.MetConditions.condition_of c.args.conditions.now in
-    let name = c.args.name.now in
+    let problem = c.args.rows.now.0 in
+    let name = c.args.rows.now.1 in
+    let own = c.name-name.result.now in
     let child = c.args.child.now in
     let text = c.as_str-virtual_name.result.now in
     let same = c.as_str-virtual_name.ensures in
-    let names = λ (v : Text). plain_said table (fact (has_virtual name child v)) in
+    let names = λ (n v : Text). plain_said table (fact (has_virtual n child v)) in
     let provider = λ (v : Text). plain_said table (fact (provides_as v child)) in
-    let met = λ (v : Text). plain_term table condition
+    let asked_by = λ (v : Text). plain_term table condition
     (some (λ row. met_rule name row.when) (filter (names_virtual problem v) (depends_at problem name))) in
-    let named = ok-is c.has_virtual.result c.in_ok-named.named (names text) c.in_ok-named.was c.has_virtual.ensures ∙ ap names same in
+    let named = ok-is c.has_virtual.result c.in_ok-named.named (names own text) c.in_ok-named.was c.has_virtual.ensures
+    ∙ ap (names own) same
+    ∙ ap (λ (n : Text). names n c.args.choice.now.0) c.name-name.ensures in
     let provides = ok-is c.provides_as.result c.in_ok-provides.provides (provider text) c.in_ok-provides.was c.provides_as.ensures
     ∙ ap provider same in
-    let rows = ok-is c.rows_formula.result c.in_ok-rows.rows (met text) c.in_ok-rows.was (c.rows_formula.ensures table) ∙ ap met same in
-    let asked = c.in_ok-asked.ensures ∙ both-same _ _ _ _ provides rows in
+    let met = ok-is c.rows_formula.result c.in_ok-met.met (asked_by text) c.in_ok-met.was (c.rows_formula.ensures table)
+    ∙ ap asked_by same in
+    let asked = c.in_ok-asked.ensures ∙ both-same _ _ _ _ provides met in
     ok-same c.implies.result (implication_of c.in_ok-named.named c.in_ok-asked.asked)
     (plain_term table condition (virtual_rule problem (names_for table) name child c.args.choice.now.0))
     (implies-same _ _ _ _ named asked) c.implies.ensures

@@ -17,9 +17,9 @@ use Rattle.rule_formulas.proofs.extra_virtuals.virtuals_formula.Goals as goal
 pub returns : goal.returns
 returns g c =
     let table = c.args.table.now in
-    let problem = c.args.problem.now in
+    let problem = c.args.rows.now.0 in
+    let name = c.args.rows.now.1 in
     let condition = g.C.MetConditions.condition_of c.args.conditions.now in
-    let name = c.args.name.now in
     let child = c.args.child.now in
     let rule = λ (n : Text). virtual_rule problem (names_for table) name child n in
     let said = λ (n : Text). plain_term table condition (virtual_rule problem (names_for table) name child n) in
@@ -27,7 +27,8 @@ returns g c =
     let first = λ (choice : Text × Lit). choice.0 in
     ok-same c.each.result (all_statements (map formula c.virtuals.result.now))
     (plain_term table condition (each_keeps rule (virtuals_on table name child)))
-    (ap (λ (l : List (Text × Lit)). all_statements (map formula l)) c.virtuals.ensures
+    (ap (λ (l : List (Text × Lit)). all_statements (map formula l))
+    (c.virtuals.ensures ∙ ap (λ (n : Text). edge_virtuals table n child) c.name.ensures)
     ∙ ap all_statements (over-mapped said first (edge_virtuals table name child))
     ∙ sym (each-said (term_said no_paths condition table) rule (virtuals_on table name child)))
     (c.each.ensures formula (λ x r says. search rules))

@@ -1,14 +1,17 @@
-use Rattle.std.proofs.Common.{rules, ap}
-use Rattle.std.specs.Str.{bytes_eq}
+use Rattle.std.proofs.Common.{sym, ap, List, map}
+use Rattle.std.specs.Option.{option_copied, option_to_list}
 use Rattle.clause_formulas.specs.Rules.{fact}
+use Rattle.clause_formulas.specs.Statements.{atom, any_statement}
+use Rattle.clause_store.specs.declared.Lit.{Lit}
+use Rattle.graph_core.specs.Graphs.{Text}
 use Rattle.graph_formulas.specs.Facts.{has_virtual}
-use Rattle.literal_table.specs.Choices.{any_choice}
 use Rattle.word_formulas.specs.Builders.{plain_said}
 use Rattle.word_formulas.proofs.Steps.{ok-same}
 use Rattle.word_formulas.proofs.edges.has_virtual.Goals as goal
 
 pub returns : goal.returns
-returns c = ok-same c.any_choice.result (any_choice (bytes_eq c.args.virtual_name.now) c.virtuals.result.now)
+returns c =
+    let said = λ (choices : List (Text × Lit)). any_statement (map (λ (choice : Text × Lit). atom choice.1) choices) in
+    ok-same c.choice_formula.result (said (option_to_list (option_copied c.virtual_choice-choice.result)))
     (plain_said c.args.table.now (fact (has_virtual c.args.parent.now c.args.child.now c.args.virtual_name.now)))
-    (ap (any_choice (bytes_eq c.args.virtual_name.now)) c.virtuals.ensures)
-    (c.any_choice.ensures (bytes_eq c.args.virtual_name.now) (λ x b says. search rules))
+    (ap said (sym c.virtual_choice-choice.ensures)) c.choice_formula.ensures
