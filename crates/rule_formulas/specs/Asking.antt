@@ -6,7 +6,6 @@ use Rattle.std.specs.Str.{bytes_eq}
 use Rattle.clause_formulas.specs.Rules.{fact}
 use Rattle.clause_formulas.specs.Statements.{Statement, any_statement, both_statements, implication_of}
 use Rattle.graph_core.specs.Graphs.{Text}
-use Rattle.graph_core.specs.declared.node.Kinds.{Kinds}
 use Rattle.condition_rules.specs.Words.{is_some_and}
 use Rattle.condition_rules.specs.Worlds.{World}
 use Rattle.virtuals.specs.Virtuals.{is_virtual}
