@@ -8,7 +8,8 @@ use Rattle.clause_store.specs.declared.Lit.{Lit}
 use Rattle.clause_store.specs.Lits.{var_of, AllBelow}
 use Rattle.proof_log.specs.Known.{has_var}
 use Rattle.clause_watch.specs.declared.trail.Placed.{Placed}
-use Rattle.clause_solver.specs.Seen.{seen_at, AreSeen, AreClear, NoneSeen}
+use Rattle.clause_watch.specs.Trails.{lits_of}
+use Rattle.clause_solver.specs.Seen.{seen_at, AreSeen, AreClear, NoneSeen, IsVarAt}
 
 or-false : (b : Bool) → b ≡ (b || false)
 or-false true = refl
@@ -74,6 +75,12 @@ NoneSeen-more m ps at end p e f h k q lo hi g =
       | inr ge ↦ let same : k ≡ at = omega arith in
           subst (λ (r : Placed). m (var_of r.lit) ≡ false) (same_Some p q (sym e ∙ ap (slice_get ps) (sym same) ∙ g)) f
     ]
+
+-- the variable of a place, as the trail's literals have it
+pub var-at : (ps : List Placed) (k x : ℕ) (d : Lit) → k < length ps → x ≡ var_of (get_or (lits_of ps) k d) → IsVarAt ps k x
+var-at [] k x d h e = absurd (omega (arith, h))
+var-at (p ∷ ps) zero x d h e = (p, refl, e)
+var-at (p ∷ ps) (suc k) x d h e = var-at ps k x d (omega (arith, h)) e
 
 -- a table of false has none seen
 pub clear-replicate : (n : ℕ) → AreClear (replicate n false)

@@ -31,6 +31,10 @@ IsLastSeen m ps end None = NoneSeen m ps 0 end
 IsLastSeen m ps end (Some j) = (p : Placed) × (slice_get ps j ≡ Some p) × (j < end) × (m (var_of p.lit) ≡ true)
     × NoneSeen m ps (j + 1) end
 
+-- the variable of a place
+abbrev pub IsVarAt : List Placed → ℕ → ℕ → Type 0
+IsVarAt ps at x = (p : Placed) × (slice_get ps at ≡ Some p) × (x ≡ var_of p.lit)
+
 -- the clause of the false literals whose variables are seen
 abbrev pub falsified : (ℕ → Bool) → List Placed → List Lit
 falsified m [] = []

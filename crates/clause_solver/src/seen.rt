@@ -2,7 +2,7 @@
 ghost use Rattle.std.specs.Prelude.{◌≡◌, ℕ, ◌<◌, ◌≤◌, true, false, length, replicate, slice_set, IfOk, OnOk};
 ghost use Rattle.clause_store.specs.Lits.{AllBelow, SameLits};
 ghost use Rattle.clause_watch.specs.Watches.{IsWatch};
-ghost use Rattle.clause_solver.specs.Seen.{seen_at, AreSeen, AreClear, AreListed, IsFalseLit, IsLastSeen, falsified};
+ghost use Rattle.clause_solver.specs.Seen.{seen_at, AreSeen, AreClear, AreListed, IsFalseLit, IsVarAt, IsLastSeen, falsified};
 
 use crate::variable_heap::VariableHeap;
 use clause_store::{Lit, Var};
@@ -137,6 +137,14 @@ impl Seen {
     }
 }
 
+/// The variable of a place of the trail. Its cause, that lies anywhere in memory, is not looked at.
+fn var_at(watch: &Watch, at: usize) -> usize
+    requires { at < length watch.now.placed }
+    ensures { IsVarAt watch.now.placed at result }
+{
+    watch.trail()[at].var.0 as usize
+}
+
 /// The last place below an end whose variable is seen.
 pub fn last_seen(seen: &Seen, watch: &Watch, end: usize) -> Option<usize>
     requires right { IsWatch watch.now.vars watch.now.clauses watch.now.placed }
@@ -147,7 +155,7 @@ pub fn last_seen(seen: &Seen, watch: &Watch, end: usize) -> Option<usize>
     let mut at = end;
     while at > 0 {
         at -= 1;
-        if seen.has(watch.at(at).lit.var.0 as usize) {
+        if seen.has(var_at(watch, at)) {
             return Some(at);
         }
     }

@@ -4,5 +4,6 @@ use Rattle.clause_solver.proofs.seen.last_seen.Goals as goal
 
 pub has-requires : goal.has-requires
 has-requires c =
-    let h = place-below c.args.watch.now.vars c.args.watch.now.placed _ c.at.result c.requires.right.orderly.in_table c.at.ensures in
-    omega (arith, h, c.requires.in_range)
+    let p = c.var_at.ensures in
+    let h = place-below c.args.watch.now.vars c.args.watch.now.placed _ p.0 c.requires.right.orderly.in_table p.1 in
+    omega (arith, h, p.2, c.requires.in_range)
