@@ -97,17 +97,14 @@ fn step(lexer: &mut Lexer, bytes: &[u8], piece: Piece) -> Result<(), LexFault>
 fn lay(lexer: &mut Lexer, bytes: &[u8]) -> Result<(), LexFault>
     ensures { Gives result lexer.new (lay bytes.now (text_pieces 0 0 bytes.now) (view lexer.old)) }
 {
-    let mut next = 0;
-    for place in 0..bytes.len() {
-        if place < next {
-            continue;
-        }
+    let mut place = 0;
+    'pieces: while place < bytes.len() {
         let piece = first_piece(place, &bytes[place..]);
         match step(lexer, bytes, piece) {
             Ok(()) => {}
             Err(fault) => return Err(fault),
         }
-        next = piece.end as usize;
+        place = piece.end as usize;
     }
     Ok(())
 }
