@@ -10,6 +10,10 @@ use crate::{LexFault, Token, TokenKind};
 use plain_data::List;
 use std::alloc::Global;
 
+/// How many bytes a token takes at the least in most recipes, where those without a token count too: with room for so
+/// many tokens from the first on, the list is moved in few files.
+const BYTES_OF_TOKEN: usize = 5;
+
 /// The bracket that closes this one.
 fn closing(b: u8) -> Option<u8>
     ensures { result ≡ closing b }
@@ -166,7 +170,7 @@ pub fn lex(alloc: Global, bytes: &[u8]) -> Result<List<Token>, LexFault>
         brackets: Vec::new(alloc),
         indents: Vec::new(alloc),
         colon: false,
-        tokens: Vec::new(alloc),
+        tokens: Vec::with_capacity(alloc, bytes.len() / BYTES_OF_TOKEN)?,
     };
     match read(&mut lexer, bytes) {
         Ok(()) => Ok(List::from_vec(lexer.tokens)),
