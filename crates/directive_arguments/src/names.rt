@@ -9,18 +9,32 @@ use plain_data::Word;
 use std::alloc::{AllocError, Global};
 use std::marker::Model;
 
+/// How many names are looked through one after the other: nearly all calls have fewer keywords, and a table by hash
+/// takes two allocations for the first name.
+const FEW: usize = 8;
+
 /// Names in the order in which they were added, each once; seen as their list.
 #[derive(Debug, Drop)]
 pub struct Names {
-    set: IndexSet<Word>,
+    /// The first ones, which are looked through.
+    few: Vec<Word>,
+    /// Those behind them, in a table by hash.
+    more: IndexSet<Word>,
 }
 
 impl Model for Names {
-    ghost use Rattle.std.specs.Prelude.{ℕ, List};
+    ghost use Rattle.std.specs.Prelude.{ℕ, List, ◌++◌};
 
     ghost Value = { List (List ℕ) };
 
-    ghost view = { λ names. names.set.keys };
+    ghost view = { λ names. names.few.items ++ names.more.keys };
+}
+
+/// Whether a name is among these.
+fn has(names: &[Word], name: &Word) -> bool
+    ensures { result ≡ list_any (bytes_eq name.now) names.now }
+{
+    names.iter().any(|one| name == one)
 }
 
 impl Names {
@@ -29,7 +43,8 @@ impl Names {
         ensures { result ≡ [] }
     {
         Names {
-            set: IndexSet::new(alloc),
+            few: Vec::new(alloc),
+            more: IndexSet::new(alloc),
         }
     }
 
@@ -39,6 +54,13 @@ impl Names {
         ensures names { IfOk result (λ is_new. self.new
             ≡ (if is_new then self.old ++ name ∷ [] else self.old)) }
     {
-        Ok(self.set.insert(name)?)
+        if has(self.few.as_slice(), &name) {
+            return Ok(false);
+        }
+        if self.few.len() < FEW && self.more.is_empty() {
+            self.few.push(name)?;
+            return Ok(true);
+        }
+        Ok(self.more.insert(name)?)
     }
 }

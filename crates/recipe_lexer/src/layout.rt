@@ -10,6 +10,10 @@ use crate::{LexFault, Token, TokenKind};
 use plain_data::List;
 use std::alloc::Global;
 
+/// How many bytes a token takes at the least in most recipes, where those without a token count too: with room for so
+/// many tokens from the first on, the list is moved in few files.
+const BYTES_OF_TOKEN: usize = 5;
+
 /// The bracket that closes this one.
 fn closing(b: u8) -> Option<u8>
     ensures { result ≡ closing b }
@@ -97,17 +101,14 @@ fn step(lexer: &mut Lexer, bytes: &[u8], piece: Piece) -> Result<(), LexFault>
 fn lay(lexer: &mut Lexer, bytes: &[u8]) -> Result<(), LexFault>
     ensures { Gives result lexer.new (lay bytes.now (text_pieces 0 0 bytes.now) (view lexer.old)) }
 {
-    let mut next = 0;
-    for place in 0..bytes.len() {
-        if place < next {
-            continue;
-        }
+    let mut place = 0;
+    'pieces: while place < bytes.len() {
         let piece = first_piece(place, &bytes[place..]);
         match step(lexer, bytes, piece) {
             Ok(()) => {}
             Err(fault) => return Err(fault),
         }
-        next = piece.end as usize;
+        place = piece.end as usize;
     }
     Ok(())
 }
@@ -169,7 +170,7 @@ pub fn lex(alloc: Global, bytes: &[u8]) -> Result<List<Token>, LexFault>
         brackets: Vec::new(alloc),
         indents: Vec::new(alloc),
         colon: false,
-        tokens: Vec::new(alloc),
+        tokens: Vec::with_capacity(alloc, bytes.len() / BYTES_OF_TOKEN)?,
     };
     match read(&mut lexer, bytes) {
         Ok(()) => Ok(List::from_vec(lexer.tokens)),

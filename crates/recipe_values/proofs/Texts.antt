@@ -1,5 +1,5 @@
 -- Texts that are UTF-8, bytes with escapes, and strings.
-use Rattle.std.proofs.Common.{◌≡◌, ℕ, ◌+◌, ◌<◌, ◌≤◌, Bool, true, false, List, ◌∷◌, length, drop, get_or, refl, arith, cond}
+use Rattle.std.proofs.Common.{◌≡◌, ℕ, ◌+◌, ◌<◌, ◌≤◌, Bool, true, false, List, [], ◌∷◌, length, drop, get_or, refl, arith, cond}
 use Rattle.std.specs.Prelude.{Ok, Err, ◌==◌, ◌&&◌, not}
 use Rattle.std.specs.Str.{IsUtf8, is_utf8}
 use Rattle.std.proofs.lemmas.List.{drop_more, drop_all}
@@ -7,7 +7,12 @@ use Rattle.std.proofs.lemmas.Str.{IsUtf8-from_is_utf8, is_utf8-from_IsUtf8}
 use Rattle.recipe_lexer.specs.declared.token.Token.{Token}
 use Rattle.recipe_lexer.specs.declared.token.TokenKind.TheVariants.{Word}
 use Rattle.recipe_values.specs.Reads.{join}
-use Rattle.recipe_values.specs.Strings.{as_text, byte_text, decoded, string, strings}
+use Rattle.recipe_values.specs.Strings.{as_text, byte_text, decoded, inside, is_no_escape, marks_of, prefix, string, strings}
+use Rattle.recipe_values.specs.Values.{texts}
+use Rattle.recipe_values.specs.declared.segment.Atom.{Atom}
+use Rattle.recipe_lexer.specs.Layout.{slice}
+use Rattle.std.specs.List.{list_all}
+use Rattle.std.proofs.lemmas.List.{nil_from_length}
 use Rattle.recipe_values.proofs.Joins.{join_nil, more_read, not_read}
 
 -- ---- UTF-8
@@ -72,3 +77,32 @@ pub strings_end : (text : List ℕ) (i : ℕ) (bytes : List ℕ) (tokens : List 
     → join (Ok text) (strings bytes (drop i tokens)) ≡ Ok text
 unfolding strings
 strings_end text i bytes tokens le = rw (drop_all i tokens le) (join_nil (Ok text))
+
+-- ---- strings that stand for what is between their marks
+
+-- a byte that is no backslash stands for itself
+plain_byte : (place b : ℕ) (rest : List ℕ) (c : Bool) → (b == 92) ≡ c → list_all is_no_escape (b ∷ rest) ≡ true
+    → (list_all is_no_escape rest ≡ true → decoded (place + 1) false rest ≡ Ok rest)
+    → join (byte_text place false b) (decoded (place + 1) (not false && b == 92) rest) ≡ Ok (b ∷ rest)
+plain_byte place b rest true is e more =
+    let none = rw is at e in
+    absurd cc
+plain_byte place b rest false is e more = rw (is, more (rw is at e)) refl
+
+-- so do bytes without a backslash
+pub decoded_plain : (place : ℕ) (w : List ℕ) → list_all is_no_escape w ≡ true → decoded place false w ≡ Ok w
+unfolding decoded
+decoded_plain place [] e = refl
+decoded_plain place (b ∷ rest) e = plain_byte place b rest (b == 92) refl e (decoded_plain (place + 1) rest)
+
+-- a string without a prefix and a backslash stands for what is between its marks
+pub string_plain : (bytes : List ℕ) (t : Token) (s : List ℕ) → s ≡ slice bytes t.start t.end → prefix s ≡ 0
+    → list_all is_no_escape (inside s) ≡ true → string bytes t ≡ Ok (inside s)
+unfolding string
+string_plain bytes t s is none e = rw (← is, none) (decoded_plain (t.start + marks_of s) (inside s) e)
+
+-- a string alone is its text
+pub alone : (bytes : List ℕ) (t : Token) (w : List ℕ) (behind : List Atom) → string bytes t ≡ Ok w → length behind ≡ 0
+    → join (string bytes t) (texts bytes t.start behind) ≡ Ok w
+unfolding texts
+alone bytes t w behind is none = rw (is, nil_from_length behind none) (join_nil (Ok w))

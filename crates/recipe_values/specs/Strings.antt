@@ -48,6 +48,10 @@ marks_of (q ∷ rest) = opening q (q ∷ rest)
 abbrev pub inside : List ℕ → List ℕ
 inside text = take (length text - (marks_of text + marks_of text)) (drop (marks_of text) text)
 
+-- a byte that begins no escape
+abbrev pub is_no_escape : ℕ → Bool
+is_no_escape b = not (b == 92)
+
 -- what stands behind the prefix `letters`: without one it has escapes, `r` takes it as it is, no other is read
 abbrev pub string_by : ℕ → List ℕ → List ℕ → Read (List ℕ)
 string_by place [] text = decoded (place + marks_of text) false (inside text)

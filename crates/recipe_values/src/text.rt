@@ -1,10 +1,10 @@
 //! The texts that strings stand for.
 
-ghost use Rattle.std.specs.Prelude.{◌≡◌, ◌==◌, ◌&&◌, not, ◌<◌, ◌≤◌, ◌+◌, ◌^◌, length, false, Ok, IfOk};
-ghost use Rattle.std.specs.List.{prefix_len};
+ghost use Rattle.std.specs.Prelude.{◌≡◌, ◌==◌, ◌&&◌, not, ◌<◌, ◌≤◌, ◌+◌, ◌^◌, length, false, Ok, IfOk, IfSome};
+ghost use Rattle.std.specs.List.{list_all, prefix_len};
 ghost use Rattle.recipe_lexer.specs.Pieces.{is_mark, marks, opening};
 ghost use Rattle.recipe_values.specs.Reads.{Adds};
-ghost use Rattle.recipe_values.specs.Strings.{text_of_escape, escape, byte_text, decoded, prefix, marks_of, inside, string_by, string_in, string, strings, as_text};
+ghost use Rattle.recipe_values.specs.Strings.{text_of_escape, escape, byte_text, decoded, prefix, marks_of, inside, is_no_escape, string_by, string_in, string, strings, as_text};
 
 use plain_data::Word;
 use recipe_lexer::Token;
@@ -112,6 +112,27 @@ fn inside(text: &[u8]) -> &[u8]
     let marks = marks_of(text);
     let count = text.len().saturating_sub(marks + marks);
     &text[marks..marks + count]
+}
+
+/// Whether no byte is a backslash.
+fn has_no_escape(text: &[u8]) -> bool
+    ensures { result ≡ list_all is_no_escape text.now }
+{
+    text.iter().all(|b| *b != b'\\')
+}
+
+/// What stands between the marks of a string that stands for just that, as nearly all strings do: it has no prefix
+/// and no backslash. None for another one.
+pub(crate) fn plain_inside(bytes: &[u8], token: Token) -> Option<&[u8]>
+    ensures { IfSome result (λ text. string bytes.now token ≡ Ok text.now) }
+{
+    let slice = token.text(bytes);
+    let text = inside(slice);
+    if prefix(slice) == 0 && has_no_escape(text) {
+        Some(text)
+    } else {
+        None
+    }
 }
 
 /// Adds the text of a string at `place` with this prefix, without which it is `marked`.

@@ -9,7 +9,7 @@ ghost use Rattle.recipe_values.specs.Reads.{Adds, join};
 ghost use Rattle.recipe_values.specs.Strings.{string, as_text};
 ghost use Rattle.recipe_values.specs.Values.{one, is_digits, word_value, unless_more, atom_text, texts, text_value, plain_value, segment_value};
 
-use crate::text::{Read, add_string, kept};
+use crate::text::{Read, add_string, kept, plain_inside};
 use crate::{Atom, Pile, PlacedValue, Scalar, Segment, Value};
 use plain_data::Word;
 use recipe_lexer::{Token, TokenKind};
@@ -166,6 +166,11 @@ fn joined(
     ensures { IfOk result (λ read. read ≡ as_text token.start (join (string bytes.now token)
         (texts bytes.now token.start behind))) }
 {
+    if behind.is_empty() {
+        if let Some(text) = plain_inside(bytes, token) {
+            return kept(alloc, token.start, text);
+        }
+    }
     let mut text = Vec::new(alloc);
     match add_joined(&mut text, bytes, token, behind)? {
         Ok(()) => kept(alloc, token.start, text.as_slice()),
