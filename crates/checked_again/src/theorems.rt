@@ -20,14 +20,14 @@ use spec_grammar::{reading_laws, writing_laws};
 use written_again::{lock_file_laws, put_laws};
 
 /// Where `concretize` ended Done, and put its lock file and its certificate apart from all that it
-/// read, `check` with the same words over the files that it left poses that the certificate is right;
-/// where it ended Unsatisfiable, `refute` does.
+/// read, `check` with the same words over the files that it left poses that the certificate is
+/// right; where it ended Unsatisfiable, `refute` does.
 ///
 /// And a run of words that pose this over the files that a desk tells answers Done where no device
 /// failed, unless memory ran out.
 ///
-/// What is asked besides is in `CanBeChecked` and `CanBeRefuted`: that no two nodes of the graph have
-/// one hash, and what holds of each problem, graph and log in memory.
+/// What is asked besides is in `CanBeChecked` and `CanBeRefuted`: that no two nodes of the graph
+/// have one hash, and what holds of each problem, graph and log in memory.
 pub fn checked_laws()
     ensures check { (asked : Asked) (files after : Files) (out err : Spoken)
         → is_dash_path asked.cert ≡ false → StandsApart asked asked.lock
