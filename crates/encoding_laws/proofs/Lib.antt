@@ -1,2 +1,4 @@
 pub mod Budgets
 pub mod EachProblem
+pub mod Ordered
+pub mod OrderedEncodings

@@ -1,7 +1,7 @@
 //! What is written of a valid graph, and read again.
 //!
-//! What it is: laws: a file that is put changes no other, and no folder but its own; the text of the
-//! lock file of a valid graph is read as just that graph, with the roots that were asked for.
+//! What it is: laws: a file that is put changes no other, and no folder but its own; the text of
+//! the lock file of a valid graph is read as just that graph, with the roots that were asked for.
 //! They are what joins a run that writes its files to one that reads them. Of each log in memory
 //! `right_lines` says what its type does.
 //! What it promises: no code but that walk over lines.

@@ -21,8 +21,8 @@ ghost use Rattle.written_again.specs.Again.{AreApart, AreAsked};
 use lock_laws::writable_laws;
 use lockfile::again_laws;
 
-/// A file that is put stands at its path, and changes no other file; where it is not in a folder, the
-/// names in that folder stay as they are.
+/// A file that is put stands at its path, and changes no other file; where it is not in a folder,
+/// the names in that folder stay as they are.
 pub fn put_laws()
     ensures there { (files : Files) (path bytes : List ℕ)
         → get (insert files path bytes) path ≡ Some bytes }
@@ -33,10 +33,10 @@ pub fn put_laws()
         → names_in (insert files path bytes) folder ≡ names_in files folder }
 {}
 
-/// Each text of the value that is written for a valid graph, as `write_lock` gives one, is read as just
-/// that graph, where no two of its nodes have one hash, the texts of its problem have their forms, and
-/// those of its roots are UTF-8, as all that were read; and its roots are those that are asked for, one
-/// of each and in order, each with the hash of its node.
+/// Each text of the value that is written for a valid graph, as `write_lock` gives one, is read as
+/// just that graph, where no two of its nodes have one hash, the texts of its problem have their
+/// forms, and those of its roots are UTF-8, as all that were read; and its roots are those that are
+/// asked for, one of each and in order, each with the hash of its node.
 pub fn lock_file_laws()
     ensures read { (problem : Problem) (graph : Content) → IsFormedProblem problem
         → AreRecords problem.database → IsWellFormed graph → valid problem graph ≡ true

@@ -2,6 +2,7 @@ use Rattle.possible_closure.specs.Closures.{closure_of}
 use Rattle.problem_formulas.specs.Given.{no_place}
 use Rattle.encoding_laws.proofs.Budgets.{same-encoding, same-rules}
 use Rattle.encoding_laws.proofs.EachProblem.{encoded}
+use Rattle.encoding_laws.proofs.OrderedEncodings.{all_ordered, rules_ordered}
 use Rattle.problem_encoding.proofs.Ruled.{unplaced}
 use Rattle.encoding_laws.proofs.theorems.encoding_laws.Goals as goal
 
@@ -16,4 +17,6 @@ returns c = record {
       c.closure_laws.ensures.structured c.order_laws.ensures.each;
   budget_rules = same-rules;
   budget = same-encoding;
+  ordered_rules = rules_ordered;
+  ordered = all_ordered;
 }
