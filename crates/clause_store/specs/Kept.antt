@@ -41,14 +41,14 @@ entries_from ds codes place from (to ∷ ends) =
 abbrev pub entries_of : List Demanded → List ℕ → List ℕ → List Entry
 entries_of ds codes ends = entries_from ds codes 0 0 ends
 
--- where the clause at a place begins
+-- where the part at a place begins
 abbrev pub start_of : ℕ → List ℕ → ℕ → ℕ
 start_of from ends zero = from
 start_of from ends (suc place) = slice_index_or ends place 0
 
--- the codes of the clause at a place
-abbrev pub part_of : List ℕ → List ℕ → ℕ → List ℕ
-part_of codes ends place = slice_range codes (start_of 0 ends place) (slice_index_or ends place 0)
+-- the part at a place
+abbrev pub part_of : {T : Type 0} → List T → List ℕ → ℕ → List T
+part_of items ends place = slice_range items (start_of 0 ends place) (slice_index_or ends place 0)
 
 -- the ends never fall, and the last is the end of all
 abbrev pub IsCut : ℕ → List ℕ → ℕ → Type 0

@@ -9,11 +9,13 @@
 
 mod clause;
 mod codes;
+mod cuts;
 mod demands;
 mod list;
 mod theorems;
 
 pub use clause::Clause;
+pub use cuts::part;
 pub use list::{ClauseList, Entry};
 pub use theorems::{clause_laws, list_laws};
 

@@ -1,12 +1,13 @@
 //! A growing list of labelled clauses.
-ghost use Rattle.std.specs.Prelude.{◌≡◌, ◌+◌, ◌^◌, ◌<◌, ◌≤◌, [], ◌∷◌, ◌++◌, Some, None, length, slice_range, IfOk, OnOk, OnErr, IfSome, IfNone};
+ghost use Rattle.std.specs.Prelude.{◌≡◌, ◌+◌, ◌^◌, ◌<◌, ◌≤◌, [], ◌∷◌, ◌++◌, Some, None, length, IfOk, OnOk, OnErr, IfSome, IfNone};
 ghost use Rattle.std.specs.Option.{option_map};
 ghost use Rattle.clause_store.specs.Lits.{AllBelow, IsClause, clause_of};
 ghost use Rattle.clause_store.specs.Clauses.{with_var, with_clause, with_structure, clauses_of, at_id, AllInRange};
-ghost use Rattle.clause_store.specs.Kept.{IsCut, start_of, part_of, lits_of_codes};
+ghost use Rattle.clause_store.specs.Kept.{part_of, lits_of_codes};
 
 use crate::clause::{Clause, rises};
 use crate::codes::{push_codes, push_within};
+use crate::cuts::part;
 use crate::demands::{Demanded, label_at, note};
 use crate::{Label, Lit, Var};
 use std::alloc::{AllocError, Global};
@@ -203,29 +204,4 @@ impl ClauseList {
         }
         Some(id as usize - 1)
     }
-}
-
-// The codes of the clause at a place.
-fn part<'a>(codes: &'a [u64], ends: &[usize], place: usize) -> &'a [u64]
-    requires cut { IsCut 0 ends.now (length codes.now) }
-    requires place { place < length ends.now }
-    ensures { result.now ≡ part_of codes.now ends.now place }
-{
-    between(codes, start_of(ends, place), ends[place])
-}
-
-fn between(codes: &[u64], start: usize, end: usize) -> &[u64]
-    requires order { start ≤ end }
-    requires within { end ≤ length codes.now }
-    ensures { result.now ≡ slice_range codes.now start end }
-{
-    &codes[start..end]
-}
-
-// Where the clause at a place begins.
-fn start_of(ends: &[usize], place: usize) -> usize
-    requires { place < length ends.now }
-    ensures { result ≡ start_of 0 ends.now place }
-{
-    if place == 0 { 0 } else { ends[place - 1] }
 }

@@ -19,7 +19,7 @@ use Rattle.clause_watch.specs.Watching.{IsTrueAt, IsGuarded, IsWatched}
 use Rattle.clause_watch.proofs.Kept.{IsWatch-grown}
 use Rattle.clause_watch.proofs.Places.{place-has, has-place, places-apart, places-same, place-upto, upto-place, consistent-from, get-front, get-last, settled-at}
 use Rattle.clause_watch.proofs.Pairs.{true-now, true-more, Guards-open}
-use Rattle.clause_watch.proofs.Rows.{at-within}
+use Rattle.clause_watch.proofs.RowPlaces.{at-within}
 use Rattle.clause_watch.proofs.Swaps.{at-has, has-at, same-from}
 use Rattle.clause_watch.proofs.ListVisits.{cases-same}
 

@@ -19,7 +19,8 @@ use Rattle.clause_watch.specs.Watching.{IsGuarded, IsKept, IsListVisit, IsNext, 
 use Rattle.clause_watch.proofs.Propagated.{clause-in, has-below}
 use Rattle.clause_watch.proofs.Places.{place-has}
 use Rattle.clause_watch.proofs.Pairs.{cases-literal, guarded-passed}
-use Rattle.clause_watch.proofs.Rows.{at-within, at-set_same, length-removed, TableGrows-put}
+use Rattle.clause_watch.proofs.Rows.{length-removed, TableGrows-put}
+use Rattle.clause_watch.proofs.RowPlaces.{at-within, at-set_same}
 use Rattle.clause_watch.proofs.WatchingLaws.{kept-listed}
 use Rattle.clause_watch.proofs.ListVisits.{negation-same, visit_list-skip, visit_list-listed, gone-kept, gone-visit_list}
 

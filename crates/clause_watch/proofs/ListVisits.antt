@@ -15,7 +15,8 @@ use Rattle.clause_watch.specs.Lists.{row_of, removed, RowIs, IsListed, TableGrow
 use Rattle.clause_watch.specs.Watching.{IsGuarded, IsWatched, IsKept, ArePassed, IsListVisit, AreTrue}
 use Rattle.clause_watch.proofs.Places.{place-within, get-front}
 use Rattle.clause_watch.proofs.Pairs.{true-now, guarded-push, guarded-passed, guarded-kept}
-use Rattle.clause_watch.proofs.Rows.{at-within, at-there, at-set_same, at-set_other, index-same, removed-listed, removed-entries}
+use Rattle.clause_watch.proofs.Rows.{index-same, removed-listed, removed-entries}
+use Rattle.clause_watch.proofs.RowPlaces.{at-within, at-there, at-set_same, at-set_other}
 
 -- two literals are the same or not
 pub cases-same : (a b : Lit) → (a ≡ b) ⊎ (a ≡ b → ⊥)

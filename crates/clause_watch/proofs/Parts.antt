@@ -6,7 +6,8 @@ use Rattle.std.proofs.Math.Seq.{drop-append_seam, take-length}
 use Rattle.clause_store.specs.declared.Lit.{Lit}
 use Rattle.clause_store.specs.Kept.{start_of, IsCut}
 use Rattle.clause_store.proofs.Kept.{cut-le, cut-more}
-use Rattle.clause_watch.specs.Parts.{parts, part_of}
+use Rattle.clause_store.specs.Kept.{part_of}
+use Rattle.clause_watch.specs.Parts.{parts}
 
 range-last : (lits more : List Lit) (from : ℕ) → from ≡ length lits → slice_range (lits ++ more) from (length lits + length more) ≡ more
 range-last lits more from e =

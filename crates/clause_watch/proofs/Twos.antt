@@ -15,7 +15,7 @@ use Rattle.clause_watch.specs.Picks.{Follows}
 use Rattle.clause_watch.specs.Watching.{IsKept, IsListVisit, IsNext}
 use Rattle.clause_watch.proofs.Propagated.{clause-in, has-below, grown-next, Grown-refl}
 use Rattle.clause_watch.proofs.Kept.{IsWatch-grown}
-use Rattle.clause_watch.proofs.Rows.{at-within}
+use Rattle.clause_watch.proofs.RowPlaces.{at-within}
 use Rattle.clause_watch.proofs.ArrivedClauses.{follows-true}
 use Rattle.clause_watch.proofs.WatchingLaws.{watching-grown}
 use Rattle.clause_watch.proofs.ListVisits.{cases-same, visit_list-skip, visit_list-grown}

@@ -10,7 +10,7 @@ use Rattle.clause_watch.specs.declared.queue.Watcher.{Watcher}
 use Rattle.clause_watch.specs.Watches.{IsWatcher}
 use Rattle.clause_watch.specs.Watching.{IsGuarded, IsKept, IsWatcherAt}
 use Rattle.clause_watch.proofs.Pairs.{guarded-visited}
-use Rattle.clause_watch.proofs.Rows.{at-within, at-there}
+use Rattle.clause_watch.proofs.RowPlaces.{at-within, at-there}
 use Rattle.clause_watch.proofs.EntryVisits.{id-at, at-pair}
 
 -- a clause with two literals apart is no single one

@@ -20,7 +20,8 @@ use Rattle.clause_watch.specs.Watching.{IsGuarded, IsWatched, IsKept, IsListVisi
 use Rattle.clause_watch.proofs.Propagated.{clause-in, has-below, grown-next, Grown-refl}
 use Rattle.clause_watch.proofs.Kept.{IsWatch-grown}
 use Rattle.clause_watch.proofs.Pairs.{guarded-visited, guarded-moved}
-use Rattle.clause_watch.proofs.Rows.{at-within, at-there, at-set_same, index-below, index-same, length-removed, TableGrows-push, push-here}
+use Rattle.clause_watch.proofs.Rows.{index-below, index-same, length-removed, TableGrows-push, push-here}
+use Rattle.clause_watch.proofs.RowPlaces.{at-within, at-there, at-set_same}
 use Rattle.clause_watch.proofs.Below.{at-read, below-same}
 use Rattle.clause_watch.proofs.Swaps.{at-has, has-at, swap-first, swap-other, swap-same}
 use Rattle.clause_watch.proofs.ArrivedClauses.{follows-true}

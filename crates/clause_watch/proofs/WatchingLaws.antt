@@ -18,7 +18,7 @@ use Rattle.clause_watch.proofs.Propagated.{free_left-less}
 use Rattle.clause_watch.proofs.Undone.{upto-whole}
 use Rattle.clause_watch.proofs.Pairs.{true-lit, true-more, true-upto, guarded-push, guarded-upto, guarded-settled}
 use Rattle.clause_watch.proofs.Fresh.{fresh-decide, fresh-undo, fresh-placed}
-use Rattle.clause_watch.proofs.Rows.{at-within, at-front, at-back, at-parts, at-there}
+use Rattle.clause_watch.proofs.RowPlaces.{at-within, at-front, at-back, at-parts, at-there}
 
 -- nothing is known
 pub kept-none : (vars : ℕ) (table : List (List Entry)) → length table ≡ vars + vars → AreEmpty table → IsKept vars [] [] table [] 0

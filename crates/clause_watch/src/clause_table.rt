@@ -1,10 +1,8 @@
 //! Clauses one after another: 4 bytes a literal, and where each clause ends.
-ghost use Rattle.std.specs.Prelude.{◌≡◌, ◌+◌, ◌<◌, ◌≤◌, ◌^◌, [], ◌∷◌, ◌++◌, length, slice_get, slice_range, Some, IfOk, OnOk, OnErr};
-ghost use Rattle.clause_store.specs.Kept.{start_of, IsCut};
-ghost use Rattle.clause_watch.specs.Parts.{part_of};
+ghost use Rattle.std.specs.Prelude.{◌≡◌, ◌+◌, ◌<◌, ◌^◌, [], ◌∷◌, ◌++◌, length, slice_get, Some, IfOk, OnOk, OnErr};
 
 use crate::codes::Code;
-use clause_store::Lit;
+use clause_store::{Lit, part};
 use std::alloc::{AllocError, Global};
 use std::marker::Model;
 
@@ -73,31 +71,6 @@ impl ClauseTable {
         }
         Ok(())
     }
-}
-
-/// The codes of the clause at a place.
-fn part<'a>(codes: &'a [Code], ends: &[usize], place: usize) -> &'a [Code]
-    requires cut { IsCut 0 ends.now (length codes.now) }
-    requires place { place < length ends.now }
-    ensures { result.now ≡ part_of codes.now ends.now place }
-{
-    between(codes, start_of(ends, place), ends[place])
-}
-
-/// Where the clause at a place begins.
-fn start_of(ends: &[usize], place: usize) -> usize
-    requires { place < length ends.now }
-    ensures { result ≡ start_of 0 ends.now place }
-{
-    if place == 0 { 0 } else { ends[place - 1] }
-}
-
-fn between(codes: &[Code], start: usize, end: usize) -> &[Code]
-    requires order { start ≤ end }
-    requires within { end ≤ length codes.now }
-    ensures { result.now ≡ slice_range codes.now start end }
-{
-    &codes[start..end]
 }
 
 /// Appends the codes of literals. After an error nothing has changed.

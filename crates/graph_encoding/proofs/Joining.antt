@@ -1,12 +1,12 @@
 -- The stages of an encoding, joined.
-use Rattle.std.proofs.Common.{◌≡◌, refl, sym, subst, ◌∙◌, Bool, true, ◌&&◌, ℕ, ◌≤◌, List, [], ◌∷◌, map, Option, arith}
+-- ---- the rules together
+use Rattle.std.proofs.Common.{refl, sym, subst, Bool, true, ℕ, ◌≤◌, List, [], ◌∷◌, map, Option, arith}
 use Rattle.std.specs.List.{list_all}
 use Rattle.std.proofs.lemmas.Bool.{and_parts, and_from}
-use Rattle.std.proofs.lemmas.List.Folds.{list_all-append}
 use Rattle.clause_store.specs.declared.Lit.{Lit}
 use Rattle.clause_store.specs.declared.Label.TheVariants.{Structure}
 use Rattle.clause_store.specs.Clauses.{Clauses}
-use Rattle.clause_circuits.specs.Growth.{Says as ClausesSay, where_asked}
+use Rattle.clause_circuits.specs.Growth.{where_asked}
 use Rattle.clause_formulas.specs.declared.defined.Defined.{Defined}
 use Rattle.clause_formulas.specs.Statements.{Statement, eval, any_statement, SaidBelow}
 use Rattle.clause_formulas.specs.Drafts.{statement_at}
@@ -22,7 +22,6 @@ use Rattle.level_encoding.specs.Input.{LevelData}
 use Rattle.level_encoding.specs.Encoding.{paths_of}
 use Rattle.level_encoding.specs.Laws.{KeepsLevels}
 use Rattle.level_encoding.proofs.AssertedLaws.{assert_all-says}
-use Rattle.level_encoding.proofs.Told.{keeps as levels-keep}
 use Rattle.graph_core.specs.Graphs.{Text, Content}
 use Rattle.problem.specs.Nodes.{IsWellFormed}
 use Rattle.problem.specs.Problems.{Problem, root_names}
@@ -43,23 +42,7 @@ use Rattle.graph_levels.proofs.InputLaws.{input-right, lits-below}
 use Rattle.graph_levels.proofs.LevelStage.{level-stage, path-below}
 use Rattle.graph_encoding.specs.Formulas.{Formulas, PathFormulas, other_rules, IsSpelled, IsRightTable, PathsBelow, MetBelow, AreRightFormulas}
 use Rattle.graph_encoding.specs.Encodings.{base, edges_made, levels_made, path_of, rules_on, encode_on, told_in, IsValid}
-
--- ---- the rules together
-
-rules-join : (problem : Problem) (g : Content) → keeps_all other_rules problem g ≡ true → KeepsLevelRules problem (λ d. true) g
-    → keeps_all structure_rules problem g ≡ true
-rules-join problem g others kept =
-    list_all-append (λ rule. keeps rule problem g) other_rules (rules.Cycle ∷ rules.Unreachable ∷ [])
-    ∙ and_from (keeps_all other_rules problem g) _ others
-    (and_from (keeps rules.Cycle problem g) _ kept.0 (and_from (keeps rules.Unreachable problem g) true kept.1 refl))
-
-rules-part : (problem : Problem) (g : Content) → keeps_all structure_rules problem g ≡ true
-    → (keeps_all other_rules problem g ≡ true) × KeepsLevelRules problem (λ d. true) g
-rules-part problem g all =
-    let p = and_parts (keeps_all other_rules problem g) (keeps rules.Cycle problem g && (keeps rules.Unreachable problem g && true))
-    (sym (list_all-append (λ rule. keeps rule problem g) other_rules (rules.Cycle ∷ rules.Unreachable ∷ [])) ∙ all) in
-    let q = and_parts (keeps rules.Cycle problem g) (keeps rules.Unreachable problem g && true) p.1 in
-    (p.0, (q.0, (and_parts (keeps rules.Unreachable problem g) true q.1).0))
+use Rattle.graph_encoding.proofs.JoinedRules.{rules-join, rules-part}
 
 -- demands over the variables
 demands-below : (n : ℕ) (f : Demand → Statement) → ((d : Demand) → SaidBelow n (f d)) → (ds : List Demand)

@@ -1,23 +1,21 @@
 -- Choices without cycles, founded, are extended to assignments that make the formulas true.
-use Rattle.std.proofs.Common.{◌≡◌, ℕ, zero, suc, length, ◌+◌, ◌-◌, ◌^◌, ◌<◌, ◌≤◌, Bool, true, false, not, cond, ltb, ◌&&◌, ◌||◌, eqb, get_or, drop, List, [], ◌∷◌, ◌++◌, map, ◌⊎◌, inl, inr, refl, sym, ap, subst, ◌∙◌, arith}
+use Rattle.std.proofs.Common.{◌≡◌, ℕ, suc, length, ◌+◌, ◌-◌, ◌^◌, ◌<◌, ◌≤◌, Bool, true, false, cond, ltb, ◌&&◌, ◌||◌, eqb, get_or, drop, List, [], ◌∷◌, ◌++◌, map, ◌⊎◌, inl, inr, refl, sym, ap, subst, ◌∙◌, arith}
 use Rattle.std.specs.Prelude.{Contains}
-use Rattle.std.specs.List.{All, list_all, filter, flat_map, slice_get, range_with_len}
+use Rattle.std.specs.List.{list_all, filter, flat_map, range_with_len}
 use Rattle.std.proofs.lemmas.Bool.{and_parts, and_from, or_left, or_right, false≢true, eq-eqb, ne_eqb, cases_eq, cases_Bool, lt-ltb, le-ltb}
 use Rattle.std.proofs.lemmas.List.Folds.{list_all-append}
-use Rattle.std.proofs.lemmas.List.Elements.{All-head, All-tail}
 use Rattle.reachability.specs.Paths.{Path, IsAcyclic, IsFounded, HasArc, reaches, joined, members, rank}
 use Rattle.reachability.proofs.PathLaws.{one_arc, arc_before, last_arc, carried}
 use Rattle.reachability.proofs.PartLaws.{rank_rises, rank_below}
 use Rattle.level_encoding.specs.Counts.{total_below, count_below}
 use Rattle.level_encoding.proofs.CountLaws.{total-le}
 use Rattle.level_encoding.proofs.Reached.{exact_same, In-has, reaches-sound, reaches-complete, Path-first}
-use Rattle.clause_store.specs.declared.Lit.{Lit}
 use Rattle.level_encoding.specs.declared.input.Arc.{Arc}
 use Rattle.clause_store.specs.Lits.{lit_true, var_of}
 use Rattle.clause_circuits.specs.Gates.{lit_of}
 use Rattle.clause_formulas.specs.Statements.{Statement, atom, or, eval, any_statement, opposite, implication_of}
 use Rattle.level_encoding.specs.Composed.{digit_row}
-use Rattle.level_encoding.specs.Input.{LevelData, numbers, same, arc_ends, possible, chosen, node, literal_at, is_root_number, is_asked_target, IsRight}
+use Rattle.level_encoding.specs.Input.{LevelData, numbers, same, arc_ends, possible, chosen, node, is_root_number, is_asked_target, IsRight}
 use Rattle.level_encoding.specs.Encoding.{numbers_below, level_width, level_start, level, turns, turn_start, arc_rules, arcs_rules, node_rules, arcs_leaving, begins_path, way_rules, path_rules, way, path, path_start, leads, ways, constraints}
 use Rattle.level_encoding.specs.Laws.{HasModel}
 use Rattle.level_encoding.proofs.FormulaLaws.{opposite-from, implies-from, first-or, rising-from, turns-from, number, digits_of, length-digits_of, number-digits_of}
@@ -26,28 +24,7 @@ use Rattle.level_encoding.proofs.Digits.{width-enough, row_at, row_at-is, count-
 use Rattle.level_encoding.proofs.Choices.{chosen-from, chosen-to, chosen-possible, possible-from, IsWithin, leads-within, leads-from, starts, starts-to, starts-from, within-from}
 use Rattle.level_encoding.proofs.ArcLaws.{inside-self, inside-joined, same-length, turn-length}
 use Rattle.level_encoding.proofs.Room.{path-fits}
-
-lit-agree : (v w : ℕ → Bool) (l : Lit) → v (var_of l) ≡ w (var_of l) → lit_true v l ≡ lit_true w l
-lit-agree v w l e = ap (λ b. cond l.positive b (not b)) e
-
-filter-agree : {A : Type 0} (f g : A → Bool) (xs : List A) → ((x : A) → In x xs → f x ≡ g x) → filter f xs ≡ filter g xs
-filter-agree f g [] h = refl
-filter-agree f g (x ∷ xs) h = rw (h x (inl refl), filter-agree f g xs (λ y i. h y (inr i))) refl
-
--- variables in a row, by their values
-read-row : (v : ℕ → Bool) (a : ℕ) (bs : List Bool) → ((k : ℕ) → k < length bs → v (a + k) ≡ get_or bs k false)
-    → map (eval v) (map (λ x. atom (lit_of x)) (range_with_len a (length bs))) ≡ bs
-read-row v a [] h = refl
-read-row v a (b ∷ bs) h =
-    let e : a + 0 ≡ a = omega arith in
-    let first : v a ≡ b = ap v (sym e) ∙ h 0 (omega arith) in
-    rw (first, read-row v (a + 1) bs (λ k l. let d : a + 1 + k ≡ a + suc k = omega arith in ap v d ∙ h (suc k) (omega (arith, l)))) refl
-
-nodes-agree : (n : ℕ) (v w : ℕ → Bool) → ((x : ℕ) → x < n → v x ≡ w x) → (ls : List Lit) → All (λ l. var_of l < n) ls → (i : ℕ)
-    → eval v (literal_at (slice_get ls i)) ≡ eval w (literal_at (slice_get ls i))
-nodes-agree n v w a [] b i = refl
-nodes-agree n v w a (l ∷ ls) b zero = lit-agree v w l (a (var_of l) (All-head (λ m. var_of m < n) l ls b))
-nodes-agree n v w a (l ∷ ls) b (suc i) = nodes-agree n v w a ls (All-tail (λ m. var_of m < n) l ls b) i
+use Rattle.level_encoding.proofs.Agreement.{lit-agree, filter-agree, read-row, nodes-agree}
 
 module _ (s : LevelData) (v : ℕ → Bool) (right : IsRight s) (acyclic : IsAcyclic (HasArc (chosen s v)))
     (founded : IsFounded (HasArc (chosen s v)) (λ i. eval v (node s i)) (is_root_number s)) where

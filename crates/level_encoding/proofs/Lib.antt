@@ -13,5 +13,6 @@ pub mod RuleLaws
 pub mod Towards
 pub mod Sound
 pub mod Complete
+pub mod Agreement
 pub mod OpenLaws
 pub mod Told

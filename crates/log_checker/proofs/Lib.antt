@@ -15,3 +15,4 @@ pub mod Blocks
 pub mod Copies
 pub mod WholeLogs
 pub mod Links
+pub mod Seeking

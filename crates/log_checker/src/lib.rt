@@ -13,6 +13,7 @@ mod chain;
 mod checker;
 mod gate;
 mod index;
+mod inputs;
 mod known;
 mod lines;
 mod position;

@@ -1,7 +1,6 @@
 //! Where a checker stands: what it knows, and which rule a line breaks there.
 ghost use Rattle.std.specs.Prelude.{◌≡◌, ◌<◌, ◌≤◌, ◌+◌, ◌^◌, [], ◌∷◌, ◌++◌, None, IfOk, OnOk, OnErr, length};
 ghost use Rattle.std.specs.Option.{option_map};
-ghost use Rattle.clause_store.specs.Lits.{IsClause};
 ghost use Rattle.clause_store.specs.Clauses.{clauses_of};
 ghost use Rattle.proof_log.specs.Known.{AllClauses};
 ghost use Rattle.log_checker.specs.Steps.{unless, begun, is_first_line, may_stand_later, next_id, next_bit, has_value, own_line_fault, place_fault, plain_fault, fault, noted, accept};
@@ -12,8 +11,9 @@ use crate::known::{Known, KnownList, bit_known, rival_known};
 use crate::lines::{bit_at, count_settled, derivation_fault, ids_fault, is_last};
 use crate::signs::Signs;
 use crate::step::Why;
+use crate::inputs::copy_all;
 use crate::store::Store;
-use clause_store::{Clause, ClauseList, Lit};
+use clause_store::{ClauseList, Lit};
 use proof_log::Line;
 use std::alloc::{AllocError, Global};
 use std::marker::Model;
@@ -63,30 +63,6 @@ pub struct Mark {
     lines: u64,
     settled: u64,
     ended: bool,
-}
-
-/// One clause of the input.
-fn take_input(store: &mut Store, clause: Clause) -> Result<(), AllocError>
-    ensures ok { OnOk result (store.new ≡ store.old ++ rival clause ∷ []) }
-    ensures in_order { IsClause clause }
-{
-    store.add(clause.lits(), false)
-}
-
-/// The clauses of a list, as the first known ones.
-fn copy_all(alloc: Global, clauses: &ClauseList) -> Result<Store, AllocError>
-    ensures copied { IfOk result (λ store. store ≡ as_known (clauses_of clauses.now.entries)) }
-    ensures in_order { OnOk result (AllClauses (clauses_of clauses.now.entries)) }
-{
-    let count = clauses.len();
-    let mut store = Store::new(alloc)?;
-    for place in 0..count {
-        match clauses.get(alloc, place + 1)? {
-            Some(clause) => take_input(&mut store, clause)?,
-            None => {}
-        }
-    }
-    Ok(store)
 }
 
 impl Position {

@@ -3,7 +3,7 @@ use Rattle.std.proofs.lemmas.Option.{same_Some}
 use Rattle.clause_store.specs.Lits.{AllBelow, SameLits}
 use Rattle.clause_solver.specs.Seen.{seen_at, AreSeen, IsLastSeen, NoneSeen, falsified}
 use Rattle.clause_solver.specs.Learning.{ReachesUip, LeadsToUip, IsBackjumpLevel}
-use Rattle.clause_solver.proofs.Steps.{known-below}
+use Rattle.clause_solver.proofs.StepsDone.{known-below}
 use Rattle.clause_solver.proofs.LearntLaws.{seen-are, start-some, start-top, lits-below, clause-some, learnt, length-lits}
 use Rattle.clause_solver.proofs.analysis.analyze.Goals as goal
 

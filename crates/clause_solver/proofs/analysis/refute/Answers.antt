@@ -1,6 +1,7 @@
 use Rattle.std.proofs.Common.{◌∷◌, [], sym, subst}
 use Rattle.clause_store.specs.Lits.{AllBelow}
-use Rattle.clause_solver.proofs.Steps.{known-below, reason-known, code-resolved, refuted}
+use Rattle.clause_solver.proofs.Steps.{reason-known}
+use Rattle.clause_solver.proofs.StepsDone.{known-below, code-resolved, refuted}
 use Rattle.clause_solver.proofs.analysis.refute.Goals as goal
 
 pub see_all-requires : goal.see_all-requires

@@ -1,7 +1,7 @@
 use Rattle.std.proofs.Common.{◌≡◌, ◌≢◌, ◌≤◌, true, inl, inr, arith}
 use Rattle.clause_store.specs.Lits.{var_of, negation, has}
 use Rattle.clause_watch.specs.Trails.{lits_of}
-use Rattle.clause_watch.proofs.Rows.{at-within}
+use Rattle.clause_watch.proofs.RowPlaces.{at-within}
 use Rattle.clause_watch.proofs.Below.{below-at, at-next}
 use Rattle.clause_watch.proofs.pick.open_behind.Goals as goal
 

@@ -1,7 +1,7 @@
 use Prim.Native.Nat.{suc}
 use Rattle.std.proofs.Common.{◌≡◌, ◌-◌, ◌≤◌, ◌∙◌, true, false, length, get_or, sym, refl, arith}
 use Rattle.log_checker.specs.Links.{bucket_of}
-use Rattle.log_checker.proofs.Links.{seeks-first, seeks-before, seeks-next, seeks-found, seeks-none}
+use Rattle.log_checker.proofs.Seeking.{seeks-first, seeks-before, seeks-next, seeks-found, seeks-none}
 use Rattle.log_checker.proofs.index.find_rival.Goals as goal
 
 pub loop-next-init : goal.loop-next-init

@@ -1,6 +1,6 @@
 use Rattle.std.proofs.Common.{length}
 use Rattle.log_checker.specs.Links.{bucket_of}
-use Rattle.log_checker.proofs.Links.{Seeks}
+use Rattle.log_checker.proofs.Seeking.{Seeks}
 use Rattle.log_checker.proofs.index.find_rival.Given as goal
 
 abbrev pub invariant-loop-next : goal.invariant-loop-next

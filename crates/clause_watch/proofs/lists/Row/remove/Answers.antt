@@ -3,7 +3,7 @@ use Rattle.std.specs.Prelude.{slice_set, slice_get}
 use Rattle.std.proofs.lemmas.Option.{same_Some}
 use Rattle.clause_watch.specs.declared.lists.Entry.{Entry}
 use Rattle.clause_watch.specs.Lists.{removed}
-use Rattle.clause_watch.proofs.Rows.{at-get_or}
+use Rattle.clause_watch.proofs.RowPlaces.{at-get_or}
 use Rattle.clause_watch.proofs.lists.Row.remove.Goals as goal
 
 removed-is : (row : List Entry) (at last : ℕ) (e : Entry) → last + 1 ≡ length row → slice_get row last ≡ Some e

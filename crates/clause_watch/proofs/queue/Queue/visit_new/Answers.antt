@@ -1,7 +1,7 @@
 use Rattle.std.proofs.Common.{◌≡◌, length, Some, sym, ap, ◌∙◌, arith}
 use Rattle.std.specs.Prelude.{slice_get}
 use Rattle.clause_watch.proofs.Propagated.{clause-in}
-use Rattle.clause_watch.proofs.Rows.{at-within}
+use Rattle.clause_watch.proofs.RowPlaces.{at-within}
 use Rattle.clause_watch.proofs.NewVisits.{all-names, open-pair}
 use Rattle.clause_watch.proofs.queue.Queue.visit_new.Goals as goal
 

@@ -4,8 +4,8 @@ use Rattle.proof_log.specs.Known.{AllClauses}
 use Rattle.log_checker.specs.declared.known.Known.{Known}
 use Rattle.log_checker.specs.Known.{clauses_in}
 use Rattle.log_checker.proofs.Copies.{IsCopied, copied, passed, all-copied, ordered-push, ordered-all}
-use Rattle.log_checker.proofs.position.copy_all.Goals as goal
-use Rattle.log_checker.proofs.position.copy_all.Goals.{in-Some+in_ok-take_input-in-Some, in-None}
+use Rattle.log_checker.proofs.inputs.copy_all.Goals as goal
+use Rattle.log_checker.proofs.inputs.copy_all.Goals.{in-Some+in_ok-take_input-in-Some, in-None}
 
 pub loop-place-preserved : goal.loop-place-preserved
 loop-place-preserved c =

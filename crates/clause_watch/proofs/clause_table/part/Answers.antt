@@ -1,8 +1,0 @@
-use Rattle.clause_store.proofs.Kept.{start-le, end-le}
-use Rattle.clause_watch.proofs.clause_table.part.Goals as goal
-
-pub between-requires : goal.between-requires
-between-requires c = record {
-  order = rw c.start_of.ensures (start-le 0 _ _ _ c.requires.cut c.requires.place);
-  within = end-le 0 _ _ _ c.requires.cut c.requires.place;
-}
