@@ -90,6 +90,7 @@ pub rules-defined : (s cur new : Clauses) (rs : List (List Lit)) → cur ≡ wit
     → new ≡ with_defined s (clauses_from rs)
 rules-defined s cur new rs e f = f ∙ ap (λ c. with_rules c rs) e ∙ with_rules-is (with_var s) rs
 
+-- a variable and a front of them define no more than the gate
 pub partly-defined : (s cur new : Clauses) (rs : List (List Lit)) → cur ≡ with_var s → Partly cur new rs
     → Partial s new (clauses_from rs)
 partly-defined s cur new rs e p =
@@ -109,6 +110,7 @@ pub side-parts : (x : Lit) (cs : List (List Lit)) (i : ℕ) (d : List Lit) → i
 side-parts x cs i d h = ap (headed x) (sym (take-append-drop i cs)) ∙ headed-append x (take i cs) (drop i cs)
     ∙ ap (λ rs. headed x (take i cs) ++ rs) (at_drop_more (headed x) cs i d h)
 
+-- the clause of one side at a place
 pub side-at : (x : Lit) (cs : List (List Lit)) (i : ℕ) (d : List Lit) → i < length cs
     → headed x (take (i + 1) cs) ≡ headed x (take i cs) ++ (x ∷ get_or cs i d) ∷ []
 side-at x cs i d h = ap (headed x) (take_more cs i d h) ∙ headed-append x (take i cs) (get_or cs i d ∷ [])
@@ -117,11 +119,13 @@ cover-append : (x : Lit) (ks ls : List Lit) → cover_rules x (ks ++ ls) ≡ cov
 cover-append x [] ls = refl
 cover-append x (k ∷ ks) ls = ap (λ rs. (x ∷ negation k ∷ []) ∷ rs) (cover-append x ks ls)
 
+-- the clauses of a cover, cut at a place
 pub cover-parts : (x : Lit) (ls : List Lit) (i : ℕ) (d : Lit) → i < length ls
     → cover_rules x ls ≡ cover_rules x (take i ls) ++ (x ∷ negation (get_or ls i d) ∷ []) ∷ cover_rules x (drop (i + 1) ls)
 cover-parts x ls i d h = ap (cover_rules x) (sym (take-append-drop i ls)) ∙ cover-append x (take i ls) (drop i ls)
     ∙ ap (λ rs. cover_rules x (take i ls) ++ rs) (at_drop_more (cover_rules x) ls i d h)
 
+-- the clause of a cover at a place
 pub cover-at : (x : Lit) (ls : List Lit) (i : ℕ) (d : Lit) → i < length ls
     → cover_rules x (take (i + 1) ls) ≡ cover_rules x (take i ls) ++ (x ∷ negation (get_or ls i d) ∷ []) ∷ []
 cover-at x ls i d h = ap (cover_rules x) (take_more ls i d h) ∙ cover-append x (take i ls) (get_or ls i d ∷ [])

@@ -63,10 +63,12 @@ clause_of-rising ls i = by-option (clause_of ls) refl
 pub clause_of-rises : (m : Lit) (ls : List Lit) → IsClause (ls ++ m ∷ []) → clause_of (m ∷ ls) ≡ Some (ls ++ m ∷ [])
 clause_of-rises m ls i = clause_of-last m ls ∙ clause_of-rising (ls ++ m ∷ []) i
 
+-- the variables are below a bound wherever the head stands
 pub AllBelow-last : (n : ℕ) (m : Lit) (ls : List Lit) → AllBelow n (m ∷ ls) → AllBelow n (ls ++ m ∷ [])
 AllBelow-last n m [] b = b
 AllBelow-last n m (l ∷ ls) b = (b.1.0, AllBelow-last n m ls (b.0, b.1.1))
 
+-- codes of literals, and of one more
 pub codes-last : (codes fs gs : List ℕ) (m : Lit) (ls : List Lit) → fs ≡ codes ++ codes_of ls → gs ≡ fs ++ codes_of (m ∷ [])
     → gs ≡ codes ++ codes_of (ls ++ m ∷ [])
 codes-last codes fs gs m ls e f =
@@ -84,5 +86,6 @@ rises-step ls ks m n k d i j s h g e c lt = (
   ((lt, AllAbove-le (var_of k) (var_of n) ks (omega (arith, lt)) c.0), c),
 )
 
+-- all were looked at
 pub rises-end : (ls ks : List Lit) (m n : Lit) (i : ℕ) → i ≡ 0 → drop i ls ++ m ∷ [] ≡ n ∷ ks → IsClause (n ∷ ks) → IsClause (ls ++ m ∷ [])
 rises-end ls ks m n i z e c = subst IsClause (sym (ap (λ j. drop j ls ++ m ∷ []) (sym z) ∙ e)) c

@@ -26,6 +26,7 @@ more-from lits more from [] c = rw (range-last lits more from c) refl
 more-from lits more from (to ∷ ends) c =
     rw (range-before lits more from to c.0 (cut-le to (length lits) ends c.1), more-from lits more to ends c.1) refl
 
+-- there are as many parts as ends
 pub length-parts : (lits : List Lit) (from : ℕ) (ends : List ℕ) → length (parts lits from ends) ≡ length ends
 length-parts lits from [] = refl
 length-parts lits from (to ∷ ends) = ap suc (length-parts lits to ends)

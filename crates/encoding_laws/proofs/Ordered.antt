@@ -83,6 +83,7 @@ more_in (x ∷ xs) ys first second = (first.0, more_in xs ys first.1 second)
 defined_in : (s : Clauses) (cs : List (List Lit)) → AreClauses cs → IsOrdered s → IsOrdered (with_defined s cs)
 defined_in s cs are o = more_in s.entries _ o (entries_in _ cs are)
 
+-- gates put clauses in order behind others
 pub gates_in : (s : Clauses) (gs : List Sides) → IsOrdered s → IsOrdered (with_gates s gs)
 gates_in s [] o = o
 gates_in s (g ∷ gs) o =
@@ -152,6 +153,7 @@ asked s d never o = o
 asked s d (or f g) o = asked (ask_in s d f).state (ask_in s d f).answer g (asked s d f o)
 asked s d (no f) o = covered (spread_in s empty f).state.list (spread_in s empty f).answer (spread s empty f o)
 
+-- whatever is defined, asserted or demanded, clauses with rising variables stay so
 pub defined : (s : Gated) (f : Statement) → IsOrdered s.list → IsOrdered (define_in s f).state.list
 unfolding define_in
 defined s f o = named (spread_in s empty f).state (spread_in s empty f).answer (spread s empty f o)
