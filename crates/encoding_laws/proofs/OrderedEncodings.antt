@@ -84,13 +84,13 @@ term s weight (Known false) o = o
 term s weight (Known true) o = literal_made s (Known true) o
 term s weight (By l) o = literal_made s (By l) o
 
-one : (s : Gated) (t : Weighted) → IsOrdered s.list → IsOrdered (one_in s t).state.list
+one-ordered : (s : Gated) (t : Weighted) → IsOrdered s.list → IsOrdered (one_in s t).state.list
 unfolding one_in
-one s t o = term (define_in s t.formula).state.list t.weight (define_in s t.formula).answer (defined s t.formula o)
+one-ordered s t o = term (define_in s t.formula).state.list t.weight (define_in s t.formula).answer (defined s t.formula o)
 
 terms : (s : Gated) (ts : List Weighted) → IsOrdered s.list → IsOrdered (terms_in s ts).state.list
 terms s [] o = o
-terms s (t ∷ ts) o = terms (one_in s t).state ts (one s t o)
+terms s (t ∷ ts) o = terms (one_in s t).state ts (one-ordered s t o)
 
 lists : (s : Gated) (ls : List (List Weighted)) → IsOrdered s.list → IsOrdered (lists_in s ls).state.list
 lists s [] o = o

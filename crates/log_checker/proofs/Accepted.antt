@@ -178,18 +178,18 @@ rest-fine s (l ∷ ls) o g t h = ap goes_on (run-accept s l ls (keeps-fault s l 
     by false x ih = ih x
 
 -- the first line
-first : (vars : ℕ) (input : List (List Lit)) (bits : List Lit) (values : Option (List Bool)) (l : Line)
+first-is_head : (vars : ℕ) (input : List (List Lit)) (bits : List Lit) (values : Option (List Bool)) (l : Line)
     → is_first_line (starting_state vars input bits values) l ≡ true → l ≡ Header vars (length input) (length bits)
-first vars input bits values (Header v c b) e =
+first-is_head vars input bits values (Header v c b) e =
     let p = and_parts (eqb v vars) (eqb c (length input) && eqb b (length bits)) e in
     let q = and_parts (eqb c (length input)) (eqb b (length bits)) p.1 in
     rw (eqb-true v vars p.0, eqb-true c (length input) q.0, eqb-true b (length bits) q.1) refl
-first vars input bits values (Learnt id c chain) e = absurd (false≢true e)
-first vars input bits values (Zero id b) e = absurd (false≢true e)
-first vars input bits values (One id b chain) e = absurd (false≢true e)
-first vars input bits values (Unsat chain) e = absurd (false≢true e)
-first vars input bits values Spent e = absurd (false≢true e)
-first vars input bits values End e = absurd (false≢true e)
+first-is_head vars input bits values (Learnt id c chain) e = absurd (false≢true e)
+first-is_head vars input bits values (Zero id b) e = absurd (false≢true e)
+first-is_head vars input bits values (One id b chain) e = absurd (false≢true e)
+first-is_head vars input bits values (Unsat chain) e = absurd (false≢true e)
+first-is_head vars input bits values Spent e = absurd (false≢true e)
+first-is_head vars input bits values End e = absurd (false≢true e)
 
 opens : (vars : ℕ) (input : List (List Lit)) (bits : List Lit) (values : Option (List Bool))
     → is_first_line (starting_state vars input bits values) (Header vars (length input) (length bits)) ≡ true
@@ -240,7 +240,7 @@ accepted-so_far vars input bits values (l ∷ ls) a t = (to, from)
         go : (b : Bool) → is_first_line s l ≡ b → IsSoFar vars input bits values (l ∷ ls)
         go false e = absurd (stuck s l ls WrongCounts (wrong e) f)
         go true e =
-            let q : l ≡ head = first vars input bits values l e in
+            let q : l ≡ head = first-is_head vars input bits values l e in
             let g : goes_on (run_lines (Going s) (head ∷ ls)) ≡ true = subst (λ x. goes_on (run_lines (Going s) (x ∷ ls)) ≡ true) q f in
             let r = of_start (fine-rest (accept s head) ls refl going t.1 (sym (ap goes_on (run-accept s head ls clear)) ∙ g)) in
             subst (λ x. IsSoFar vars input bits values (x ∷ ls)) (sym q) ((refl, r.each, r.last), (tt, r.distinct), (tt, r.suit))

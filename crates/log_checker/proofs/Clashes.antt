@@ -126,8 +126,8 @@ unlisted : (f : ℕ → Option Bool) (a b : List Lit) (l : Lit) → IsClause a �
     → Clashes a b (negation l)
 unlisted f a b l i e h = let r = has-clash f a b l i e h in (r.1, subst (λ z. has b z ≡ true) (sym (negation-twice l)) r.0)
 
-one : (c : List Lit) → IsClause c → (l m : Lit) → has c l ≡ true → has c m ≡ true → var_of l ≡ var_of m → l ≡ m
-one c i l m h k e = one_sign c l m i h k e
+same-lit : (c : List Lit) → IsClause c → (l m : Lit) → has c l ≡ true → has c m ≡ true → var_of l ≡ var_of m → l ≡ m
+same-lit c i l m h k e = one_sign c l m i h k e
 
 pub resolved-none : (f : ℕ → Option Bool) (a b : List Lit) → IsClause a → IsClause b → AreSigns f a → clashes f b ≡ []
     → resolved a b ≡ no_pivot
@@ -138,7 +138,7 @@ resolved-none f a b i j e n = go (resolved a b) refl
 
     go : (r : Resolved) → resolved a b ≡ r → resolved a b ≡ no_pivot
     go no_pivot q = q
-    go two_pivots q = let t = resolved-two_pivots a b (one b j) q in absurd (empty t.0 t.2)
+    go two_pivots q = let t = resolved-two_pivots a b (same-lit b j) q in absurd (empty t.0 t.2)
     go (result r) q = let t = resolved-result a b r i j q in absurd (empty t.0 t.1.clash)
 
 pub resolved-two : (f : ℕ → Option Bool) (a b : List Lit) (l m : Lit) (ms : List Lit) → IsClause a → IsClause b → AreSigns f a
@@ -181,7 +181,7 @@ resolved-one f a b l i j e n = go (resolved a b) refl
     go : (r : Resolved) → resolved a b ≡ r → (r : List Lit) × (resolved a b ≡ result r) × IsClause r
         × AreSigns (λ x. if eqb (var_of l) x then None else over (sign_in b x) (f x)) r
     go no_pivot q = absurd (resolved-no_pivot a b q (negation l) clash)
-    go two_pivots q = let t = resolved-two_pivots a b (one b j) q in absurd (t.4 (only t.0 t.2 ∙ sym (only t.1 t.3)))
+    go two_pivots q = let t = resolved-two_pivots a b (same-lit b j) q in absurd (t.4 (only t.0 t.2 ∙ sym (only t.1 t.3)))
     go (result r) q = let t = resolved-result a b r i j q in (
       r,
       q,
