@@ -76,8 +76,9 @@ fn check<R: Threads + Sync>(
     Ok(checker.finish())
 }
 
-/// Whether the lines are a certificate that no assignment that meets the clauses has smaller bits than
-/// these values; they may come from anywhere. Where they are not, which line is refused, and why.
+/// Whether the lines are a certificate that no assignment that meets the clauses has smaller bits
+/// than these values; they may come from anywhere. Where they are not, which line is refused, and
+/// why.
 pub fn check_certificate<R: Threads + Sync>(
     rt: &R,
     alloc: Global,

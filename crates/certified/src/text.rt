@@ -22,13 +22,13 @@ use std::thread::Threads;
 pub enum TextAnswer {
     /// What the checker answers to its lines: the first refusal, or the answer at their end.
     Checked(Step),
-    /// The number, from 1, of the first line that spells none or is not ended by a line feed. Those before
-    /// it were accepted.
+    /// The number, from 1, of the first line that spells none or is not ended by a line feed. Those
+    /// before it were accepted.
     BadLine(u64),
 }
 
-/// A checker of a text in pieces. It keeps the clauses and the bytes of the line that has begun, so its
-/// memory grows with what is learnt and not with the text.
+/// A checker of a text in pieces. It keeps the clauses and the bytes of the line that has begun, so
+/// its memory grows with what is learnt and not with the text.
 #[derive(Drop)]
 pub struct TextChecker {
     alloc: Global,
@@ -48,7 +48,8 @@ impl Model for TextChecker {
     ghost view = { λ c. record { progress = c.checker; place = c.reader; failed = c.failed; short = c.short } };
 }
 
-/// Reads a piece, and has the lines that end in it checked. Answers whether the reader came to a bad line.
+/// Reads a piece, and has the lines that end in it checked. Answers whether the reader came to a
+/// bad line.
 fn take_piece<R: Threads + Sync>(
     rt: &R,
     alloc: Global,
@@ -70,8 +71,8 @@ fn take_piece<R: Threads + Sync>(
 }
 
 impl TextChecker {
-    /// A checker before the first byte: with values, of certificates that these are the least values of
-    /// the bits; without, of refutations.
+    /// A checker before the first byte: with values, of certificates that these are the least
+    /// values of the bits; without, of refutations.
     pub fn new(
         alloc: Global,
         clauses: &ClauseList,
@@ -102,8 +103,8 @@ impl TextChecker {
         }
     }
 
-    /// Takes the next bytes, and has the lines that end in them checked. Answers whether further bytes may
-    /// change the answer; where they may not, none is read.
+    /// Takes the next bytes, and has the lines that end in them checked. Answers whether further
+    /// bytes may change the answer; where they may not, none is read.
     ///
     /// # Errors
     ///

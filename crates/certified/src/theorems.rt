@@ -43,8 +43,8 @@ pub fn text_laws()
         → answer_of s (log_text lines) ≡ Checked (finish_on (run_lines (Going s) lines)) }
 {}
 
-/// In a sound and complete encoding no right thing has smaller bits than one whose bits are certified,
-/// and nothing is right where the clauses are refuted.
+/// In a sound and complete encoding no right thing has smaller bits than one whose bits are
+/// certified, and nothing is right where the clauses are refuted.
 pub fn encoding_laws<G>()
     ensures least { (is_right : G → Bool) (bits_of : G → List Bool) (read : (ℕ → Bool) → G)
         (s : Clauses) (bits : List Lit) (g : G) (lines : List Line)

@@ -37,8 +37,8 @@ fn take_text<R: Threads + Sync>(
     Ok(())
 }
 
-/// Whether a text is that of a certificate of these values, or of a refutation where there are none; it may
-/// come from anywhere.
+/// Whether a text is that of a certificate of these values, or of a refutation where there are
+/// none; it may come from anywhere.
 pub fn check_text<R: Threads + Sync>(
     rt: &R,
     alloc: Global,

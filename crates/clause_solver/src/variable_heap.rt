@@ -1,4 +1,5 @@
-//! A binary heap of the variables that wait, by activity. Those that were never bumped need no place in it.
+//! A binary heap of the variables that wait, by activity. Those that were never bumped need no
+//! place in it.
 ghost use Rattle.std.specs.Prelude.{◌≡◌, ◌+◌, ◌<◌, ◌≤◌, length, false, slice_set, slice_index_or, IfOk, IfSome, IfNone};
 ghost use Rattle.clause_solver.specs.Heaps.{AllUnder};
 ghost use Rattle.clause_solver.specs.HeapValues.{untouched};
@@ -33,7 +34,8 @@ pub struct VariableHeap {
     increment: u64,
     /// The last value of each variable, and false before the first.
     phases: Vec<bool>,
-    /// No variable below it is without value unless it waits. (Not proved, and nothing rests on it.)
+    /// No variable below it is without value unless it waits. (Not proved, and nothing rests on
+    /// it.)
     low: usize,
 }
 

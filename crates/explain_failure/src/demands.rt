@@ -39,7 +39,8 @@ fn demands_of(alloc: Global, clauses: &ClauseList, marks: &[bool]) -> Result<Vec
     Ok(demands)
 }
 
-/// How many marks there are to be: one for each clause, and for id 0; beyond 64 bits want of memory.
+/// How many marks there are to be: one for each clause, and for id 0; beyond 64 bits want of
+/// memory.
 fn size_for(clauses: u64, lines: usize) -> Result<usize, AllocError>
     ensures ok { IfOk result (λ size. size ≡ clauses + lines + 1) }
     ensures cause { IfErr result (λ _. 2 ^ 64 ≤ clauses + lines + 1) }

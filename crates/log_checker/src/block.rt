@@ -25,8 +25,8 @@ pub struct Ground<'a> {
     known: &'a KnownList,
 }
 
-/// The first of some lines whose chain has a fault, by its number in the log. The lines stand at places
-/// from `place` on, and have numbers from `number` on.
+/// The first of some lines whose chain has a fault, by its number in the log. The lines stand at
+/// places from `place` on, and have numbers from `number` on.
 fn first_bad<G: Gate>(
     ground: Ground,
     gate: &G,
@@ -145,8 +145,8 @@ fn is_late(why: Why) -> bool
     }
 }
 
-/// The refusal of a block: by the chain of a line, or by the tests without chains of the line behind
-/// those that were taken.
+/// The refusal of a block: by the chain of a line, or by the tests without chains of the line
+/// behind those that were taken.
 fn verdict(lines: u64, plain: Option<Why>, bad: Option<(u64, Why)>) -> Option<(u64, Why)>
     requires { lines + 1 < 2 ^ 64 }
     ensures { result ≡ verdict lines plain bad }

@@ -1,4 +1,5 @@
-//! The check of a chain, by the signs of variables. A clause that is used again is looked at where pivots stood since.
+//! The check of a chain, by the signs of variables. A clause that is used again is looked at where
+//! pivots stood since.
 ghost use Rattle.std.specs.Prelude.{◌≡◌, ◌↔◌, ℕ, length, IfOk, OnOk, None, IsTrue};
 ghost use Rattle.std.specs.Option.{option_map};
 ghost use Rattle.proof_log.specs.Resolution.{IdsIn};
@@ -14,7 +15,8 @@ use crate::uses::{Uses, literals_of};
 use clause_store::Lit;
 use std::alloc::AllocError;
 
-/// How many literals are looked at in the time in which one is looked for, where the signs are in the row.
+/// How many literals are looked at in the time in which one is looked for, where the signs are in
+/// the row.
 const SEARCH: usize = 8;
 
 /// Whether a literal's variable has the opposite sign.

@@ -36,8 +36,8 @@ impl Model for Checker {
 }
 
 impl Checker {
-    /// A checker before the first line: with values, of certificates that these are the least values of
-    /// the bits; without, of refutations.
+    /// A checker before the first line: with values, of certificates that these are the least
+    /// values of the bits; without, of refutations.
     pub fn new(
         alloc: Global,
         clauses: &ClauseList,
@@ -80,9 +80,10 @@ impl Checker {
         }
     }
 
-    /// Checks the next lines, to the answer of `step` on one after the other. The lines up to the first
-    /// that a test without its chain refuses go to two threads in halves, the first one rounded up; a
-    /// half tells the gate of each line before it checks it. After an error the checker is as it was.
+    /// Checks the next lines, to the answer of `step` on one after the other. The lines up to the
+    /// first that a test without its chain refuses go to two threads in halves, the first one
+    /// rounded up; a half tells the gate of each line before it checks it. After an error the
+    /// checker is as it was.
     pub fn step_block<R: Threads + Sync, G: Gate>(
         &mut self,
         rt: &R,
@@ -130,7 +131,8 @@ impl Checker {
         }
     }
 
-    /// The answer at the end of the lines: the first refusal, and else whether the last line ended the log.
+    /// The answer at the end of the lines: the first refusal, and else whether the last line ended
+    /// the log.
     pub fn finish(&self) -> Step
         ensures { result ≡ finish_on self.now }
     {

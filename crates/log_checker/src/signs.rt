@@ -6,8 +6,8 @@ use std::alloc::{AllocError, Global};
 use std::collections::BTreeMap;
 use std::marker::Model;
 
-/// For each variable a sign or none, seen as the map of them. A call costs as much as it touches: so a
-/// chain costs what its clauses are, however many variables there are.
+/// For each variable a sign or none, seen as the map of them. A call costs as much as it touches:
+/// so a chain costs what its clauses are, however many variables there are.
 #[derive(Drop)]
 pub struct Signs {
     alloc: Global,
@@ -107,8 +107,8 @@ impl Signs {
     }
 }
 
-/// Notes that a variable is about to have a sign. One that has a sign already was noted before: so there are no more
-/// notes than signs that were taken and variables that have one.
+/// Notes that a variable is about to have a sign. One that has a sign already was noted before: so
+/// there are no more notes than signs that were taken and variables that have one.
 fn touch(touched: &mut Vec<u64>, mark: Option<bool>, var: u64) -> Result<(), AllocError>
     ensures ok { OnOk result (touched.new.items ≡ with_touched mark touched.old.items var) }
     ensures err { OnErr result (touched.new.items ≡ touched.old.items) }

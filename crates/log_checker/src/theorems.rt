@@ -13,9 +13,9 @@ ghost use Rattle.log_checker.specs.Steps.{Progress, Going, starting_state, run_l
 ghost use Rattle.log_checker.specs.Kinds.{IsLogOf, IsSoFar};
 ghost use Rattle.log_checker.specs.Worked.{refutes, certifies, head, one};
 
-/// Lines are accepted to the end exactly where they are a certificate of the values, or a refutation;
-/// none of them is refused exactly where they keep the rules so far; and it does not matter how they
-/// are cut into blocks.
+/// Lines are accepted to the end exactly where they are a certificate of the values, or a
+/// refutation; none of them is refused exactly where they keep the rules so far; and it does not
+/// matter how they are cut into blocks.
 pub fn checker_laws()
     ensures accepted { (vars : ℕ) (input : List (List Lit)) (bits : List Lit)
         (values : Option (List Bool)) (lines : List Line)

@@ -13,9 +13,10 @@ const LONG: usize = 32;
 
 /// The steps of a chain so far.
 ///
-/// A step leaves each literal of its clause with its sign, but for the pivot; and only a later pivot takes a sign. So
-/// where a clause is used again, its literals have their signs, but for the pivots since. A chain of n ids over m
-/// clauses of k literals each looks so at n * min(m, k) of them, and not at n * k.
+/// A step leaves each literal of its clause with its sign, but for the pivot; and only a later
+/// pivot takes a sign. So where a clause is used again, its literals have their signs, but for the
+/// pivots since. A chain of n ids over m clauses of k literals each looks so at n * min(m, k) of
+/// them, and not at n * k.
 #[derive(Drop)]
 pub struct Uses {
     // The variable of each step's pivot.
@@ -43,7 +44,8 @@ impl Uses {
         }
     }
 
-    /// The pivots since a clause of so many literals was last used, where that is noted and they are at most so many.
+    /// The pivots since a clause of so many literals was last used, where that is noted and they
+    /// are at most so many.
     pub fn since(&self, id: u64, count: usize, most: usize) -> Option<&[u64]>
         ensures { IfSome result (λ vars. IsSince self.now id vars.now) }
     {

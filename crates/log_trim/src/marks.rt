@@ -44,7 +44,8 @@ fn chain_of(line: &Line) -> &[u64]
     }
 }
 
-/// Marks what a line uses if it stays, where what the lines behind it use is marked; gives whether it stays.
+/// Marks what a line uses if it stays, where what the lines behind it use is marked; gives whether
+/// it stays.
 fn mark_line(marks: &mut Vec<bool>, line: &Line) -> bool
     requires { HasRoom (length marks.old.items) line.now }
     ensures length { length marks.new.items ≡ length marks.old.items }

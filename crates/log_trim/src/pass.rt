@@ -44,9 +44,9 @@ fn shorter(alloc: Global, lines: &[Line]) -> Result<Log, AllocError>
     Ok(log)
 }
 
-/// The log without the learnt lines whose clauses nothing rests on, and with ids anew: a line stays that settles a bit
-/// or ends the log, and a learnt one whose clause is used by a line that stays behind it. A log whose budget is spent
-/// stays as it is, since each of its learnt clauses counts.
+/// The log without the learnt lines whose clauses nothing rests on, and with ids anew: a line stays
+/// that settles a bit or ends the log, and a learnt one whose clause is used by a line that stays
+/// behind it. A log whose budget is spent stays as it is, since each of its learnt clauses counts.
 ///
 /// Takes the lines and their chains twice, and a word for each clause, known or learnt.
 pub fn trim(alloc: Global, log: Log) -> Result<Log, AllocError>

@@ -6,7 +6,8 @@ ghost use Rattle.proof_log.specs.Lines.{learnt_in};
 ghost use Rattle.proof_log.specs.Certificates.{AreOver, IsCertificate, IsRefutation, IsSpentLog};
 ghost use Rattle.log_trim.specs.Trimmed.{trimmed};
 
-/// A shorter log is a certificate of the same values, a refutation of the same clauses, or of the same spent budget.
+/// A shorter log is a certificate of the same values, a refutation of the same clauses, or of the
+/// same spent budget.
 pub fn trim_laws()
     ensures certificate { (vars : ℕ) (input : List (List Lit)) (bits : List Lit)
         (values : List Bool)

@@ -16,13 +16,16 @@ use std::alloc::Global;
 ///   put           ──► the file holds the bytes ─ Failed: put_faults rises, the old file or the new one
 /// ```
 ///
-/// Calls come in any order, also after a fault: no fault closes a desk. A call that does not answer `Failed` leaves
-/// both counts. A count never falls, is below 2^64, and stays at 2^64 - 1 once it stands there.
+/// Calls come in any order, also after a fault: no fault closes a desk. A call that does not answer
+/// `Failed` leaves both counts. A count never falls, is below 2^64, and stays at 2^64 - 1 once it
+/// stands there.
 ///
-/// What a call gave is so in the files that the desk tells behind it. A desk that can't know its files, as that of a machine, is
-/// supposed to have some, and ceases to tell them where an answer is not as these have it; one in memory never ceases.
+/// What a call gave is so in the files that the desk tells behind it. A desk that can't know its
+/// files, as that of a machine, is supposed to have some, and ceases to tell them where an answer
+/// is not as these have it; one in memory never ceases.
 pub trait Desk {
-    /// The files, where the desk tells them. No reading and no listing changes what it tells, but it may cease to.
+    /// The files, where the desk tells them. No reading and no listing changes what it tells, but
+    /// it may cease to.
     ghost files: { Self → Option Files };
 
     /// How often a reading or a listing failed.
@@ -31,10 +34,12 @@ pub trait Desk {
     /// How often a put failed.
     ghost put_faults: { Self → ℕ };
 
-    /// Reads bytes of the file at `path` from place `from` on into the front of `out`, and answers how many.
+    /// Reads bytes of the file at `path` from place `from` on into the front of `out`, and answers
+    /// how many.
     ///
-    /// The answer is 0 exactly where `out` is empty or `from` is not below the file's length, and else at
-    /// most `out.len()`. `Missing` where there is no such file. After an error `out` may hold anything.
+    /// The answer is 0 exactly where `out` is empty or `from` is not below the file's length, and
+    /// else at most `out.len()`. `Missing` where there is no such file. After an error `out` may
+    /// hold anything.
     fn read_at(
         &mut self,
         alloc: Global,
@@ -51,8 +56,8 @@ pub trait Desk {
         ensures steady { ¬ IsErrOf result DeskFault.Failed → faults self.new ≡ faults self.old }
         ensures put_faults { put_faults self.new ≡ put_faults self.old };
 
-    /// The names in the folder at `path`: the distinct texts that stand between `path/` and the next `/`,
-    /// or the path's end, in the paths of the files, sorted by their bytes.
+    /// The names in the folder at `path`: the distinct texts that stand between `path/` and the
+    /// next `/`, or the path's end, in the paths of the files, sorted by their bytes.
     ///
     /// `Missing` where there is none.
     fn list(&mut self, alloc: Global, path: &str) -> Result<Vec<String>, DeskFault>

@@ -1,9 +1,10 @@
 //! What stands outside of the program: a desk of files, and a sink that lines are said to.
-//! Promises, for any desk or sink: what each call does to the content, and the cause of each fault, by counts.
-//! Has three of each: in memory with faults on demand, in memory without faults, and the machine's own.
-//! Stands on: std alone. Only `RealDesk`, `RealSink`, `file_id` and what stands in `real_*` below them reach the machine. What that holds is not known:
-//! `RealDesk` is supposed to hold files, any ones, and tells these as long as the machine answers as they have it.
-//! Must not know: what the files mean, or who reads them.
+//! Promises, for any desk or sink: what each call does to the content, and the cause of each fault,
+//! by counts. Has three of each: in memory with faults on demand, in memory without faults, and the
+//! machine's own. Stands on: std alone. Only `RealDesk`, `RealSink`, `file_id` and what stands in
+//! `real_*` below them reach the machine. What that holds is not known: `RealDesk` is supposed to
+//! hold files, any ones, and tells these as long as the machine answers as they have it. Must not
+//! know: what the files mean, or who reads them.
 #![tactic(auto)]
 
 mod calls;

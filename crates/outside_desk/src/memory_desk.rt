@@ -12,7 +12,8 @@ use crate::pieces::copy_piece;
 use crate::{Desk, DeskFault};
 use std::alloc::{AllocError, Global};
 
-/// Files in memory. It counts its calls of `read_at`, `list` and `put` from 0, and fails those of a list.
+/// Files in memory. It counts its calls of `read_at`, `list` and `put` from 0, and fails those of a
+/// list.
 ///
 /// ```text
 ///   new ──► files empty, next call 0, no call is to fail, no faults
@@ -20,7 +21,8 @@ use std::alloc::{AllocError, Global};
 ///   read_at, list, put ──► next call + 1 ── number in the list: Failed, faults or put_faults + 1
 /// ```
 ///
-/// A put of a number of `fail_call` leaves the file as it was, and one of `fail_late` fails once the file holds the bytes.
+/// A put of a number of `fail_call` leaves the file as it was, and one of `fail_late` fails once
+/// the file holds the bytes.
 #[derive(Drop)]
 pub struct MemoryDesk {
     map: FileMap,
@@ -57,7 +59,8 @@ impl MemoryDesk {
         }
     }
 
-    /// Makes the file at the path hold the bytes, which is no call. Where memory is short, nothing changes.
+    /// Makes the file at the path hold the bytes, which is no call. Where memory is short, nothing
+    /// changes.
     pub fn add(&mut self, path: &str, bytes: &[u8]) -> Result<(), AllocError>
         ensures ok { OnOk result (desk_state self.new ≡ record (desk_state self.old) {
           files =
@@ -68,7 +71,8 @@ impl MemoryDesk {
         self.map.put(path, bytes)
     }
 
-    /// Lets the call of that number fail. The first call has the number 0. Where memory is short, nothing changes.
+    /// Lets the call of that number fail. The first call has the number 0. Where memory is short,
+    /// nothing changes.
     pub fn fail_call(&mut self, call: u64) -> Result<(), AllocError>
         ensures ok { OnOk result (desk_state self.new ≡ record (desk_state self.old) {
           failing =
@@ -79,8 +83,8 @@ impl MemoryDesk {
         self.calls.fail(call)
     }
 
-    /// Lets the call of that number, where it is a put, fail once the file holds the bytes. Any other call does not fail by this.
-    /// Where memory is short, nothing changes.
+    /// Lets the call of that number, where it is a put, fail once the file holds the bytes. Any
+    /// other call does not fail by this. Where memory is short, nothing changes.
     pub fn fail_late(&mut self, call: u64) -> Result<(), AllocError>
         ensures ok { OnOk result (desk_state self.new ≡ record (desk_state self.old) {
           late =

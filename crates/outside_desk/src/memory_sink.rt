@@ -40,7 +40,8 @@ impl MemorySink {
         }
     }
 
-    /// Lets the call of that number fail. The first call has the number 0. Where memory is short, nothing changes.
+    /// Lets the call of that number fail. The first call has the number 0. Where memory is short,
+    /// nothing changes.
     pub fn fail_call(&mut self, call: u64) -> Result<(), AllocError>
         ensures ok { OnOk result (sink_state self.new ≡ record (sink_state self.old) {
           failing =

@@ -16,8 +16,9 @@ use std::rt::Files;
 
 /// Files of the machine, through a runtime. Its counts rise by one at each `Failed`.
 ///
-/// What the machine holds is not known. So this desk is supposed to hold some files, any ones: it tells these as long as each reading and
-/// each listing answered as they have it, and ceases to tell where one did not. `new` supposes none, and tells nothing.
+/// What the machine holds is not known. So this desk is supposed to hold some files, any ones: it
+/// tells these as long as each reading and each listing answered as they have it, and ceases to
+/// tell where one did not. `new` supposes none, and tells nothing.
 ///
 /// ```text
 ///   new, supposing ──► both counts 0
@@ -25,14 +26,15 @@ use std::rt::Files;
 ///   put ── Failed: put_faults + 1
 /// ```
 ///
-/// `Missing` also where a file stands in a folder's place, and where a name is too long for the machine.
-/// Reading what is no regular file is `Failed`. A file is opened once for all its pieces, so one that is
-/// replaced in between is not read as a mix. Interrupted readings and writings are tried again. A folder
-/// without names is `Missing`, and names that are no texts are passed over.
+/// `Missing` also where a file stands in a folder's place, and where a name is too long for the
+/// machine. Reading what is no regular file is `Failed`. A file is opened once for all its pieces,
+/// so one that is replaced in between is not read as a mix. Interrupted readings and writings are
+/// tried again. A folder without names is `Missing`, and names that are no texts are passed over.
 ///
-/// A put replaces a regular file as a whole: it writes a file `.spack_concretize-N.tmp` in the same folder, under the first number
-/// that is free, syncs it, renames it and syncs the folder. Links at the end of the path are followed first; permissions are kept,
-/// and the owner where the machine lets it. A pipe or a device is written in place. A put answers `OutOfMemory` only before
+/// A put replaces a regular file as a whole: it writes a file `.spack_concretize-N.tmp` in the same
+/// folder, under the first number that is free, syncs it, renames it and syncs the folder. Links at
+/// the end of the path are followed first; permissions are kept, and the owner where the machine
+/// lets it. A pipe or a device is written in place. A put answers `OutOfMemory` only before
 /// anything was written, and `Failed` at each other error.
 ///
 /// `F` is the runtime's type of open files.
@@ -109,8 +111,8 @@ impl<'a, R: Files> RealDesk<'a, R, R::File> {
         }
     }
 
-    /// Reads a piece of the file at the path. The file is opened where its front is asked for, or another
-    /// one is being read.
+    /// Reads a piece of the file at the path. The file is opened where its front is asked for, or
+    /// another one is being read.
     fn read_piece(
         &mut self,
         alloc: Global,

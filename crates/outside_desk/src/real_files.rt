@@ -31,8 +31,8 @@ pub fn fault_of(error: &Error) -> DeskFault
     }
 }
 
-/// Opens a file to be read. What is no regular file, as a folder, a pipe or a device, is an error at once,
-/// since to open or to read it may wait for ever.
+/// Opens a file to be read. What is no regular file, as a folder, a pipe or a device, is an error
+/// at once, since to open or to read it may wait for ever.
 pub fn open_regular<R: Files>(rt: &R, path: &str) -> Result<R::File, Error> {
     if !fs::metadata(rt, path)?.is_file() {
         return Err(Error::from(ErrorKind::InvalidInput));
@@ -40,8 +40,8 @@ pub fn open_regular<R: Files>(rt: &R, path: &str) -> Result<R::File, Error> {
     fs::open(rt, path)
 }
 
-/// Reads a piece of a file into the front of the buffer, and answers how many bytes. No file reaches a place
-/// past `i64::MAX`, and no seek goes there.
+/// Reads a piece of a file into the front of the buffer, and answers how many bytes. No file
+/// reaches a place past `i64::MAX`, and no seek goes there.
 pub fn read_piece<F: Read + Seek>(file: &mut F, from: u64, out: &mut [u8]) -> Result<usize, Error>
     ensures { ReadsAtMost result out.new }
 {
@@ -65,7 +65,8 @@ fn read_once<F: Read>(file: &mut F, out: &mut [u8]) -> Result<usize, Error>
     Err(Error::from(ErrorKind::Interrupted))
 }
 
-/// Writes all of the bytes, or a front of them and then an error. A writing that takes none is an error.
+/// Writes all of the bytes, or a front of them and then an error. A writing that takes none is an
+/// error.
 pub fn write_whole<W: Write>(writer: &mut W, bytes: &[u8]) -> Result<(), Error>
     ensures ok { OnOk result (Appends (W.contents writer.old) (W.contents writer.new) bytes.now) }
     ensures err { OnErr result (AppendsPart (W.contents writer.old)

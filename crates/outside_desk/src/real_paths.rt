@@ -11,7 +11,8 @@ use std::rt::Files;
 /// How many links at the end of a path are followed, as the machine does.
 const LINKS: u32 = 40;
 
-/// The folder of a path: what stands before the last `/`, and the present folder where there is none.
+/// The folder of a path: what stands before the last `/`, and the present folder where there is
+/// none.
 pub fn folder_of(path: &str) -> &str {
     match path.rsplit_once('/') {
         Some(("", _)) => "/",
@@ -28,8 +29,9 @@ fn name_of(path: &str) -> &str {
     }
 }
 
-/// The path of the regular file that a put replaces or makes, behind all links at the end of the path. None where what stands
-/// there is no regular file, and where the path leads through the open files of a process, as `/dev/stdout` does.
+/// The path of the regular file that a put replaces or makes, behind all links at the end of the
+/// path. None where what stands there is no regular file, and where the path leads through the open
+/// files of a process, as `/dev/stdout` does.
 pub fn replaced_path<R: Files>(alloc: Global, rt: &R, path: &str) -> Result<Option<String>, Error> {
     if !is_regular_or_missing(rt, path)? {
         return Ok(None);
@@ -56,7 +58,8 @@ fn is_regular_or_missing<R: Files>(rt: &R, path: &str) -> Result<bool, Error> {
     }
 }
 
-/// Whether the folder is one of those in which the machine shows processes. Where it has no path that is a text, it is none.
+/// Whether the folder is one of those in which the machine shows processes. Where it has no path
+/// that is a text, it is none.
 fn is_of_processes<R: Files>(alloc: Global, rt: &R, folder: &str) -> Result<bool, Error> {
     match rt.canonicalize(alloc, folder) {
         Ok(path) => Ok(path.as_str().starts_with("/proc/")),
@@ -103,8 +106,8 @@ impl FileId {
     }
 }
 
-/// Which file a put to the path replaces or makes. `Missing` where there is no such folder, and `Failed` also where what stands
-/// there is no regular file.
+/// Which file a put to the path replaces or makes. `Missing` where there is no such folder, and
+/// `Failed` also where what stands there is no regular file.
 pub fn file_id<R: Files>(alloc: Global, rt: &R, path: &str) -> Result<FileId, DeskFault> {
     match find_id(alloc, rt, path) {
         Ok(Some(id)) => Ok(id),
@@ -113,8 +116,8 @@ pub fn file_id<R: Files>(alloc: Global, rt: &R, path: &str) -> Result<FileId, De
     }
 }
 
-/// The file that a path leads to, links followed; where there is none, the folder that it would stand in and its name
-/// there. None where a put would replace no regular file.
+/// The file that a path leads to, links followed; where there is none, the folder that it would
+/// stand in and its name there. None where a put would replace no regular file.
 fn find_id<R: Files>(alloc: Global, rt: &R, path: &str) -> Result<Option<FileId>, Error> {
     let Some(path) = replaced_path(alloc, rt, path)? else {
         return Ok(None);

@@ -1,4 +1,5 @@
-//! Puts of the machine: a new file is written beside the one that it is to replace, and then takes its place.
+//! Puts of the machine: a new file is written beside the one that it is to replace, and then takes
+//! its place.
 
 ghost use Rattle.std.specs.Prelude.{◌≡◌, IsErrOf, OnErr};
 ghost use Rattle.std.specs.IoError.{error_kind};
@@ -33,9 +34,10 @@ fn put_fault_of(error: &Error) -> DeskFault
 
 /// Makes the file at the path hold the bytes.
 ///
-/// A regular file is replaced, so that it is the old one or the new one at any time: also where the run is killed, the disk
-/// is full or the power is cut. Links at the end of the path are followed first, and the file that they lead to is replaced.
-/// What is no regular file, as a pipe or a device, is written in place.
+/// A regular file is replaced, so that it is the old one or the new one at any time: also where the
+/// run is killed, the disk is full or the power is cut. Links at the end of the path are followed
+/// first, and the file that they lead to is replaced. What is no regular file, as a pipe or a
+/// device, is written in place.
 pub fn put_file<R: Files>(alloc: Global, rt: &R, path: &str, bytes: &[u8]) -> Result<(), DeskFault>
     ensures { IsErrOf result DeskFault.Missing → ⊥ }
 {
@@ -66,7 +68,8 @@ fn failed_or(written: Result<(), Error>) -> Result<(), DeskFault>
     }
 }
 
-/// Replaces the file at a path that leads to no link. The new file is removed where a step fails before it stands there.
+/// Replaces the file at a path that leads to no link. The new file is removed where a step fails
+/// before it stands there.
 fn replace<R: Files>(alloc: Global, rt: &R, path: &str, bytes: &[u8]) -> Result<(), DeskFault>
     ensures { IsErrOf result DeskFault.Missing → ⊥ }
 {
@@ -98,8 +101,8 @@ fn begin<R: Files>(
     Ok((old, new))
 }
 
-/// What the file at a path is, or none where there is none. It is an error where it may not be written: what is protected
-/// so is not replaced either.
+/// What the file at a path is, or none where there is none. It is an error where it may not be
+/// written: what is protected so is not replaced either.
 fn old_file<R: Files>(rt: &R, path: &str) -> Result<Option<Metadata>, Error> {
     match OpenOptions::new().write(true).open(rt, path) {
         Ok(file) => Ok(Some(file.metadata()?)),
@@ -108,8 +111,8 @@ fn old_file<R: Files>(rt: &R, path: &str) -> Result<Option<Metadata>, Error> {
     }
 }
 
-/// Makes a file in a folder under the first name that is free. Names that are taken belong to other runs, or to runs that
-/// were killed, and what stands there is not touched.
+/// Makes a file in a folder under the first name that is free. Names that are taken belong to other
+/// runs, or to runs that were killed, and what stands there is not touched.
 fn make_beside<R: Files>(alloc: Global, rt: &R, folder: &str) -> Result<Beside<R::File>, Error> {
     for number in 0..u64::MAX {
         let path = format!(in alloc; "{folder}/.spack_concretize-{number}.tmp")?;
@@ -126,8 +129,8 @@ fn make_beside<R: Files>(alloc: Global, rt: &R, folder: &str) -> Result<Beside<R
     Err(Error::from(ErrorKind::AlreadyExists))
 }
 
-/// Has a new file hold the bytes, for good: what the machine kept back so far is told here, since nobody hears what it says
-/// when a file is closed.
+/// Has a new file hold the bytes, for good: what the machine kept back so far is told here, since
+/// nobody hears what it says when a file is closed.
 fn fill<R: Files>(
     rt: &R,
     file: &mut R::File,
@@ -142,7 +145,8 @@ fn fill<R: Files>(
     file.sync_all()
 }
 
-/// Gives a new file the permissions of the old one, and its owner and group where the machine lets it.
+/// Gives a new file the permissions of the old one, and its owner and group where the machine lets
+/// it.
 fn keep_access<R: Files>(rt: &R, file: &R::File, path: &str, old: &Metadata) -> Result<(), Error> {
     let new = file.metadata()?;
     if new.uid() != old.uid() || new.gid() != old.gid() {
@@ -151,7 +155,8 @@ fn keep_access<R: Files>(rt: &R, file: &R::File, path: &str, old: &Metadata) -> 
     file.set_permissions(old.permissions())
 }
 
-/// Has the names in a folder stand for good. File systems that cannot do that to a folder answer `InvalidInput` or `Unsupported`.
+/// Has the names in a folder stand for good. File systems that cannot do that to a folder answer
+/// `InvalidInput` or `Unsupported`.
 fn sync_folder<R: Files>(rt: &R, folder: &str) -> Result<(), Error> {
     match fs::open(rt, folder)?.sync_all() {
         Err(error)

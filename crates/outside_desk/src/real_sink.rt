@@ -16,7 +16,8 @@ use std::io::Write;
 ///   say ── Failed: count + 1
 /// ```
 ///
-/// Each error of the writer is `Failed`. It never flushes: give it a writer with no buffer of its own, as the standard output.
+/// Each error of the writer is `Failed`. It never flushes: give it a writer with no buffer of its
+/// own, as the standard output.
 #[derive(Drop)]
 pub struct RealSink<W> {
     writer: W,

@@ -12,8 +12,8 @@ use std::alloc::Global;
 ///   say ──► the bytes stand at the end ── Failed: faults rises, a front of them may stand there
 /// ```
 ///
-/// Calls come in any order, also after a fault. A call that does not answer `Failed` leaves the count. It never
-/// falls, is below 2^64, and stays at 2^64 - 1 once it stands there.
+/// Calls come in any order, also after a fault. A call that does not answer `Failed` leaves the
+/// count. It never falls, is below 2^64, and stays at 2^64 - 1 once it stands there.
 pub trait Sink {
     /// What was said, where the sink tells it.
     ghost said: { Self → Option (List ℕ) };

@@ -8,9 +8,11 @@ ghost use Rattle.outside_desk.specs.Files.{Files, files_code};
 use crate::DeskFault;
 use std::marker::Model;
 
-/// Files that a machine is supposed to hold, as long as it answered as they have it. It takes no bytes, and its calls do nothing at run time.
+/// Files that a machine is supposed to hold, as long as it answered as they have it. It takes no
+/// bytes, and its calls do nothing at run time.
 ///
-/// Nothing in it is tied to the machine, which tells nothing: what a desk of the machine makes of it after each call is what ties it.
+/// Nothing in it is tied to the machine, which tells nothing: what a desk of the machine makes of
+/// it after each call is what ties it.
 #[derive(Drop)]
 pub struct Supposed {
     /// The files; none are told any more where the machine answered otherwise.

@@ -12,8 +12,8 @@ const PIECE: usize = 16384;
 
 /// Reads the file at `path` to its end, piece by piece, unless it has more than `limit` bytes.
 ///
-/// `TooLong` where `limit` + 1 bytes were got, `Missing` or `Failed` where a reading answered so. No file
-/// changes. A file that changes between two readings may give a mix of both.
+/// `TooLong` where `limit` + 1 bytes were got, `Missing` or `Failed` where a reading answered so.
+/// No file changes. A file that changes between two readings may give a mix of both.
 pub fn read_whole<D: Desk>(
     alloc: Global,
     desk: &mut D,
