@@ -82,8 +82,6 @@ fn some_provides(
 pub fn provides(world: &World, node: &Node, name: &str, wanted: Option<&VersionSet>) -> bool
     ensures { result ≡ provides world.now node.now name.now (option_copied wanted.entry) }
 {
-    match world.recipe(node.name.as_str()) {
-        Some(recipe) => some_provides(world, node, name, wanted, recipe.provides.as_slice()),
-        None => false,
-    }
+    let rows = world.provided(node.name.as_str(), name);
+    some_provides(world, node, name, wanted, rows)
 }

@@ -25,5 +25,7 @@ pub use in_graph::{all_hold, asked_node, governing, holds, suits};
 pub use part::{is_compiler, is_target, meets_platform};
 pub use paths::Paths;
 pub use theorems::condition_laws;
-pub use virtuals::{ConflictRow, DependRow, Part, Providers, Recipe, RequireRow, Spec};
+pub use virtuals::{
+    ConflictRow, DependRow, Part, ProvidedRows, Providers, Recipe, RequireRow, Spec,
+};
 pub use world::World;

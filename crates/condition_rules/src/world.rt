@@ -1,12 +1,14 @@
 // What conditions are read against.
 ghost use Rattle.std.specs.Prelude.{◌≡◌};
 ghost use Rattle.std.specs.Option.{option_copied};
+ghost use Rattle.virtuals.specs.Provided.{naming, AreRowsOf};
 ghost use Rattle.virtuals.specs.Virtuals.{AreInOrder, AreProviders, is_virtual};
-ghost use Rattle.condition_rules.specs.Worlds.{recipe_of};
+ghost use Rattle.condition_rules.specs.Worlds.{recipe_of, rows};
 
+use keyed_lists::place_of;
 use std::marker::Model;
 use target_table::TargetTable;
-use virtuals::{Providers, Recipe, find};
+use virtuals::{ProvideRow, ProvidedRows, Providers, Recipe, find};
 
 /// The machine's platform, the targets, and the recipes in byte order of names, each name once.
 #[derive(Drop)]
@@ -15,9 +17,11 @@ pub struct World<'a> {
     targets: &'a TargetTable,
     recipes: &'a [Recipe],
     providers: &'a Providers,
+    provided: &'a ProvidedRows,
 }
 
 impl<'a> Model for World<'a> {
+    ghost use Rattle.virtuals.specs.Provided.{AreRowsOf};
     ghost use Rattle.virtuals.specs.Virtuals.{AreInOrder, AreProviders};
     ghost use Rattle.condition_rules.specs.Worlds.{World};
 
@@ -25,19 +29,21 @@ impl<'a> Model for World<'a> {
 
     ghost view = { λ w. record { platform = w.platform.now; targets = w.targets.now; recipes = w.recipes.now } };
 
-    ghost invariant = { λ w. record { order : AreInOrder w.recipes.now; providers : AreProviders w.recipes.now w.providers.now } };
+    ghost invariant = { λ w. record { order : AreInOrder w.recipes.now; providers : AreProviders w.recipes.now w.providers.now; provided : AreRowsOf w.recipes.now w.provided.now } };
 }
 
 impl<'a> World<'a> {
-    /// The world of these recipes, and of what they provide.
+    /// The world of these recipes, and of what they provide, by virtuals and by packages.
     pub fn new(
         platform: &'a str,
         targets: &'a TargetTable,
         recipes: &'a [Recipe],
         providers: &'a Providers,
+        provided: &'a ProvidedRows,
     ) -> World<'a>
         requires order { AreInOrder recipes.now }
         requires providers { AreProviders recipes.now providers.now }
+        requires provided { AreRowsOf recipes.now provided.now }
         ensures { result ≡ record {
           platform = platform.now;
           targets = targets.now;
@@ -50,6 +56,7 @@ impl<'a> World<'a> {
             targets,
             recipes,
             providers,
+            provided,
         }
     }
 
@@ -80,5 +87,17 @@ impl<'a> World<'a> {
         ensures { result ≡ is_virtual self.now.recipes name.now }
     {
         self.providers.is_virtual(name)
+    }
+    /// The rows of `provides` of a package that name the virtual, in the order of its recipe.
+    ///
+    /// Takes three binary searches.
+    pub fn provided(&self, name: &str, virtual_name: &str) -> &'a [ProvideRow]
+        ensures { result.now ≡ naming virtual_name.now
+            (rows (λ recipe. recipe.provides) (recipe_of self.now name.now)) }
+    {
+        match place_of(self.recipes, name) {
+            Ok(place) => self.provided.naming(place, virtual_name),
+            Err(_) => &[],
+        }
     }
 }

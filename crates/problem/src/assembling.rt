@@ -17,7 +17,7 @@ use crate::platforms::wrong_platform;
 use crate::problem::Shared;
 use crate::required::required_of;
 use crate::{Demand, Problem, ProblemFault};
-use condition_rules::{Providers, Recipe, Spec};
+use condition_rules::{ProvidedRows, Providers, Recipe, Spec};
 use plain_data::{Duplicate, List, Word};
 use reuse_db::Database;
 use site_settings::{PackageEntry, Settings};
@@ -50,12 +50,14 @@ pub fn assemble(
         roots.len(),
         settings.packages.as_slice(),
     )?;
+    let provided = ProvidedRows::of_recipes(alloc, recipes.as_slice())?;
     let required = required_of(alloc, settings.packages.as_slice())?;
     let shared = Shared {
         recipes,
         settings,
         database,
         providers: found.0,
+        provided,
         demands: found.1,
         most: roots.len(),
         required,

@@ -1,6 +1,7 @@
 //! A problem.
 ghost use Rattle.std.specs.Prelude.{◌≡◌, ◌<◌, true, length, slice_get, IfOk, Some};
 ghost use Rattle.std.specs.Option.{option_copied};
+ghost use Rattle.condition_rules.specs.OfVirtuals.Provided.{AreRowsOf};
 ghost use Rattle.condition_rules.specs.OfVirtuals.Virtuals.{AreInOrder, AreProviders};
 ghost use Rattle.problem.specs.Assembled.{is_assembled};
 ghost use Rattle.problem.specs.Demands.{demands};
@@ -8,7 +9,7 @@ ghost use Rattle.problem.specs.Problems.{each_alone, world_of};
 ghost use Rattle.problem.specs.Required.{AreNamedRows};
 
 use crate::Demand;
-use condition_rules::{Providers, Recipe, Spec, World};
+use condition_rules::{ProvidedRows, Providers, Recipe, Spec, World};
 use plain_data::{Duplicate, List, Word};
 use recipe_data::RequireRow;
 use reuse_db::Database;
@@ -25,6 +26,8 @@ pub(crate) struct Shared {
     pub(crate) database: Database,
     /// What the recipes provide.
     pub(crate) providers: Providers,
+    /// The same, by packages.
+    pub(crate) provided: ProvidedRows,
     /// What may be demanded of a graph where so many specs are requested.
     pub(crate) demands: List<Demand>,
     /// How many these are.
@@ -44,6 +47,7 @@ pub struct Problem {
 impl Model for Problem {
     ghost use Rattle.std.specs.Prelude.{◌≡◌, ◌≤◌, true, length};
     ghost use Rattle.std.specs.Arc.{arc_value};
+    ghost use Rattle.condition_rules.specs.OfVirtuals.Provided.{AreRowsOf};
     ghost use Rattle.condition_rules.specs.OfVirtuals.Virtuals.{AreInOrder, AreProviders};
     ghost use Rattle.problem.specs.Assembled.{is_assembled};
     ghost use Rattle.problem.specs.Demands.{AreDemandsOfMost};
@@ -54,7 +58,7 @@ impl Model for Problem {
 
     ghost view = { λ p. let s = arc_value p.shared in problem_of s.recipes s.settings s.database p.roots };
 
-    ghost invariant = { λ p. let s = arc_value p.shared in record { order : AreInOrder s.recipes; right : is_assembled (problem_of s.recipes s.settings s.database p.roots) ≡ true; providers : AreProviders s.recipes s.providers; asked : AreDemandsOfMost s.most s.recipes s.settings.packages s.demands; few : length p.roots ≤ s.most; required : AreNamedRows s.settings.packages s.required } };
+    ghost invariant = { λ p. let s = arc_value p.shared in record { order : AreInOrder s.recipes; right : is_assembled (problem_of s.recipes s.settings s.database p.roots) ≡ true; providers : AreProviders s.recipes s.providers; provided : AreRowsOf s.recipes s.provided; asked : AreDemandsOfMost s.most s.recipes s.settings.packages s.demands; few : length p.roots ≤ s.most; required : AreNamedRows s.settings.packages s.required } };
 }
 
 impl Problem {
@@ -95,6 +99,13 @@ impl Problem {
         &self.shared.providers
     }
 
+    /// What each recipe provides.
+    pub(crate) fn provided(&self) -> &ProvidedRows
+        ensures { AreRowsOf self.now.recipes result.now }
+    {
+        &self.shared.provided
+    }
+
     /// What its conditions are read against.
     pub fn world(&self) -> World<'_>
         ensures { result ≡ world_of self.now }
@@ -104,6 +115,7 @@ impl Problem {
             &self.settings().targets,
             self.recipes(),
             self.providers(),
+            self.provided(),
         )
     }
 

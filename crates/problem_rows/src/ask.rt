@@ -29,7 +29,7 @@ use reuse_db::DbFault;
 use site_settings::Settings;
 use spec_grammar::{Part, Spec, SpecFault, read_condition};
 use std::alloc::{AllocError, Global};
-use virtuals::{Providers, ProvidersFault};
+use virtuals::{ProvidedRows, Providers, ProvidersFault};
 
 fn text_of(alloc: Global, text: &str) -> Result<String, AllocError> {
     String::from_str(alloc, text)
@@ -185,12 +185,14 @@ fn of_world(
     requires order { AreInOrder recipes.now }
     requires providers { AreProviders recipes.now providers.now }
 {
+    let provided = ProvidedRows::of_recipes(alloc, recipes)?;
     let settings = Settings::standard(alloc)?;
     let world = World::new(
         settings.platform.as_str(),
         &settings.targets,
         recipes,
         providers,
+        &provided,
     );
     of_graph(alloc, world, graph, what, rest)
 }
@@ -204,12 +206,14 @@ fn found_over(
     requires { AreInOrder recipes.now }
 {
     let providers = Providers::of_recipes(alloc, recipes)?;
+    let provided = ProvidedRows::of_recipes(alloc, recipes)?;
     let settings = &site.settings;
     let world = World::new(
         settings.platform.as_str(),
         &settings.targets,
         recipes,
         &providers,
+        &provided,
     );
     found_text(alloc, &world, &site.database, spec)
 }

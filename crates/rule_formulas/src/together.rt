@@ -104,10 +104,10 @@ fn rows_together(
         (filter (λ row. bytes_eq row.name virtual_name.now)
         (provides_at problem.now provider.now)))) }
 {
-    each_where(
+    let world = problem.world();
+    each(
         alloc,
-        provides_at(problem, provider.as_str()),
-        |row| row.name.as_str() == virtual_name.as_str(),
+        world.provided(provider.as_str(), virtual_name.as_str()),
         |row| by_row_formula(alloc, problem, table, virtual_name, provider, row),
     )
 }

@@ -1,5 +1,6 @@
 pub mod PairLaws
 pub mod VirtualLaws
+mod ProvidedLaws
 pub mod OfVariantValues
 pub mod OfReachability
 pub mod OfKeyedLists

@@ -1,5 +1,6 @@
 -- what public contracts say
 pub mod Virtuals
+pub mod Provided
 -- inside
 pub mod Pairs
 pub mod OfVariantValues

@@ -7,10 +7,12 @@
 #![tactic(auto)]
 
 mod clash;
+mod provided;
 mod providers;
 mod theorems;
 
 pub use clash::ProvidersFault;
+pub use provided::ProvidedRows;
 pub use providers::Providers;
 pub use recipe_data::{
     Bits, Compiler, Condition, ConflictRow, DependRow, Graph, Node, Part, ProvideRow, Recipe,
