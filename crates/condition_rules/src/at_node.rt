@@ -46,8 +46,8 @@ fn all_meet(world: &World, specs: &[Spec], node: &Node) -> bool
     specs.iter().all(|spec| meets(world, &spec.top, node))
 }
 
-/// Whether a row of `provides` says that the node provides a virtual for a list of versions; without
-/// one, for any.
+/// Whether a row of `provides` says that the node provides a virtual for a list of versions;
+/// without one, for any.
 pub fn row_provides(
     world: &World,
     node: &Node,

@@ -46,7 +46,8 @@ fn rows_in<'a>(
     Ok(rows)
 }
 
-/// The definitions of variants in the recipe of a name, found by the variants; seen as the world and the name.
+/// The definitions of variants in the recipe of a name, found by the variants; seen as the world
+/// and the name.
 #[derive(Drop)]
 pub struct Definitions<'a> {
     world: World<'a>,

@@ -9,7 +9,8 @@ use std::alloc::{AllocError, Global};
 use std::marker::Model;
 use virtuals::{Bits, Graph, heads_of, reached};
 
-/// A name and a graph, with a mark for each node that a path of one or more edges leads to from there.
+/// A name and a graph, with a mark for each node that a path of one or more edges leads to from
+/// there.
 #[derive(Drop)]
 pub(crate) struct Below<'a> {
     graph: &'a Graph,

@@ -8,8 +8,9 @@ ghost use Rattle.condition_rules.specs.Worlds.{World};
 ghost use Rattle.condition_rules.specs.Meets.{meets};
 ghost use Rattle.condition_rules.specs.Holds.{holds, all_hold};
 
-/// A spec without parts after `^` holds at a node where its top part does. So a condition of `provides`, which has
-/// no such part, may speak of the node alone. Specs hold together in any order.
+/// A spec without parts after `^` holds at a node where its top part does. So a condition of
+/// `provides`, which has no such part, may speak of the node alone. Specs hold together in any
+/// order.
 pub fn condition_laws()
     ensures alone { (world : World) (spec : Spec) (graph : Content) (name : Text) (node : Node)
         → spec.below ≡ [] → node_of graph name ≡ Some node

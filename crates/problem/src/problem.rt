@@ -147,8 +147,8 @@ impl Problem {
         later.get(id as usize)
     }
 
-    /// The problem that has one of the requested specs as its only one. It takes memory for that spec
-    /// alone.
+    /// The problem that has one of the requested specs as its only one. It takes memory for that
+    /// spec alone.
     #[tactic(auto, using(crate::proofs::AssembledLaws::alone_assembled, crate::proofs::AssembledLaws::apart_at))]
     pub fn alone(&self, alloc: Global, place: usize) -> Result<Problem, AllocError>
         requires { place < length self.now.roots }

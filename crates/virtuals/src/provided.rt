@@ -9,8 +9,8 @@ use recipe_data::{ProvideRow, Recipe};
 use std::alloc::{AllocError, Global};
 use std::marker::Model;
 
-/// The rows of `provides` of some recipes, those of each recipe in byte order of the virtuals, seen as the list of
-/// these lists.
+/// The rows of `provides` of some recipes, those of each recipe in byte order of the virtuals, seen
+/// as the list of these lists.
 #[derive(Drop)]
 pub struct ProvidedRows {
     lists: Vec<List<ProvideRow>>,
@@ -43,8 +43,8 @@ impl ProvidedRows {
         Ok(ProvidedRows { lists })
     }
 
-    /// The rows that name the virtual, of the recipe at a place, in the order of the recipe. There is none behind the
-    /// last recipe.
+    /// The rows that name the virtual, of the recipe at a place, in the order of the recipe. There
+    /// is none behind the last recipe.
     ///
     /// Takes two binary searches.
     pub fn naming(&self, place: usize, name: &str) -> &[ProvideRow]

@@ -12,8 +12,8 @@ use recipe_data::{ProvideRow, Recipe};
 use std::alloc::{AllocError, Global};
 use std::marker::Model;
 
-/// The virtuals of some recipes with the packages that may provide them, seen as the list of these pairs in
-/// byte order.
+/// The virtuals of some recipes with the packages that may provide them, seen as the list of these
+/// pairs in byte order.
 #[derive(Debug, Drop)]
 pub struct Providers {
     pairs: Vec<(Word, Word)>,

@@ -6,8 +6,8 @@ ghost use Rattle.recipe_data.specs.OfGraphCore.Graphs.{Text};
 ghost use Rattle.recipe_data.specs.declared.recipe.Recipe.{Recipe};
 ghost use Rattle.virtuals.specs.Virtuals.{AreInOrder, AreProviders, Pairs, clash, has_pair, is_virtual};
 
-/// A table of providers has a name exactly where the name is a virtual. The name that clashes is the least that
-/// does.
+/// A table of providers has a name exactly where the name is a virtual. The name that clashes is
+/// the least that does.
 pub fn virtual_laws()
     ensures has { (recipes : List Recipe) (pairs : Pairs) (name : Text) → AreProviders recipes pairs
         → has_pair pairs name ≡ is_virtual recipes name }
