@@ -16,10 +16,10 @@ use Rattle.run_input.specs.Recipes.{recipes_of}
 abbrev Read : Type 0
 Read = Result Recipe RecipeFault
 
-heads : {A : Type 0} (x y : A) (xs ys : List A) → (let T : Type 0 = List A in let a : T = x ∷ xs in let b : T = y ∷ ys in a ≡ b) → x ≡ y
+pub heads : {A : Type 0} (x y : A) (xs ys : List A) → (let T : Type 0 = List A in let a : T = x ∷ xs in let b : T = y ∷ ys in a ≡ b) → x ≡ y
 heads x y xs ys e = cc
 
-tails : {A : Type 0} (x y : A) (xs ys : List A) → (let T : Type 0 = List A in let a : T = x ∷ xs in let b : T = y ∷ ys in a ≡ b) → xs ≡ ys
+pub tails : {A : Type 0} (x y : A) (xs ys : List A) → (let T : Type 0 = List A in let a : T = x ∷ xs in let b : T = y ∷ ys in a ≡ b) → xs ≡ ys
 tails x y xs ys e = cc
 
 -- each file is a recipe

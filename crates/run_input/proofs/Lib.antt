@@ -6,6 +6,7 @@ pub mod InOrder
 pub mod Counted
 pub mod Entries
 pub mod Files
+pub mod Turns
 pub mod Named
 pub mod Once
 pub mod Queries

@@ -1,11 +1,11 @@
 //! The recipes of files, and that their names are not provided.
 
-ghost use Rattle.std.specs.Prelude.{◌≡◌, ◌≤◌, ◌^◌, true, map, Err, IfOk};
+ghost use Rattle.std.specs.Prelude.{◌≡◌, ◌≤◌, ◌^◌, true, map, Ok, Err, IfOk};
 ghost use Rattle.std.specs.List.{list_all};
 ghost use Rattle.recipe_data.specs.Right.{is_right_recipe};
 ghost use Rattle.problem.specs.Limits.{are_few_rows};
 ghost use Rattle.virtuals.specs.Virtuals.{recipe_name};
-ghost use Rattle.recipe_reader.specs.Files.{FailsAt, IsFirstFault};
+ghost use Rattle.recipe_reader.specs.Files.{recipe_in_file, FailsAt, IsFirstFault};
 ghost use Rattle.run_answers.specs.Stages.{Is};
 ghost use Rattle.run_answers.specs.Stops.{Gives, EndsInReadFault};
 ghost use Rattle.run_input.specs.Sources.{bytes_in, source_of};
@@ -20,6 +20,9 @@ use recipe_reader::{RecipeFault, RecipeFile, read_recipes};
 use std::alloc::{AllocError, Global};
 use std::thread::Threads;
 use virtuals::{Providers, ProvidersFault};
+
+/// How many files a turn has.
+const TURN: usize = 1 << 10;
 
 /// The refusal for the first file that has a fault.
 #[tactic(auto, using(crate::proofs::Files::first_bad))]
@@ -56,26 +59,53 @@ fn stop_at(
     }
 }
 
-/// The recipes of files, one of each and in their order.
+/// The recipes of the files of a turn, one of each and in their order.
 #[tactic(auto, using(crate::proofs::Files::all_read, crate::proofs::Files::named_alike))]
-pub fn recipes_of<R: Threads + Sync>(
+fn recipes_in_turn<R: Threads + Sync>(
     rt: &R,
     alloc: Global,
     files: &[RecipeFile],
 ) -> Result<List<Recipe>, ReadStop>
-    requires { bytes_in (map source_of files.now) ≤ 2 ^ 28 }
     ensures read { Gives result (Is (recipes_of (map source_of files.now))) }
+    ensures found { IfOk result (λ recipes. map recipe_in_file files.now ≡ map Ok recipes) }
     ensures right { IfOk result (λ recipes. list_all is_right_recipe recipes ≡ true) }
-    ensures few_rows { IfOk result (λ recipes. are_few_rows recipes ≡ true) }
     ensures names { IfOk result (λ recipes. map recipe_name recipes ≡ map (λ source. source.0)
         (map source_of files.now)) }
     ensures no_fault { EndsInReadFault result → ⊥ }
 {
-    size_laws();
     match read_recipes(rt, alloc, files) {
         Ok(recipes) => Ok(recipes),
         Err((place, fault)) => stop_at(alloc, files, place, fault),
     }
+}
+
+/// The recipes of files, one of each and in their order. They are read in turns, and the bytes of a turn go before
+/// the next one, so that what is made of them takes their room.
+pub fn recipes_of<R: Threads + Sync>(
+    rt: &R,
+    alloc: Global,
+    files: Vec<RecipeFile>,
+) -> Result<List<Recipe>, ReadStop>
+    requires { bytes_in (map source_of files.items) ≤ 2 ^ 28 }
+    ensures read { Gives result (Is (recipes_of (map source_of files.items))) }
+    ensures right { IfOk result (λ recipes. list_all is_right_recipe recipes ≡ true) }
+    ensures few_rows { IfOk result (λ recipes. are_few_rows recipes ≡ true) }
+    ensures names { IfOk result (λ recipes. map recipe_name recipes ≡ map (λ source. source.0)
+        (map source_of files.items)) }
+    ensures no_fault { EndsInReadFault result → ⊥ }
+{
+    size_laws();
+    let mut recipes = Vec::new(alloc);
+    let mut rest = files;
+    'turns: while !rest.is_empty() {
+        let later = rest.split_off(rest.len().min(TURN))?;
+        match recipes_in_turn(rt, alloc, rest.as_slice()) {
+            Ok(more) => recipes.append(&mut more.into_vec())?,
+            Err(stop) => return Err(stop),
+        }
+        rest = later;
+    }
+    Ok(List::from_vec(recipes))
 }
 
 /// Refuses a recipe whose name some recipe provides.

@@ -25,14 +25,14 @@ use std::thread::Threads;
 fn read_over<R: Threads + Sync>(
     rt: &R,
     alloc: Global,
-    files: &[RecipeFile],
+    files: Vec<RecipeFile>,
 ) -> Result<List<Recipe>, ReadStop>
-    requires { bytes_in (map source_of files.now) ≤ 2 ^ 28 }
-    ensures read { Gives result (OverSources (map source_of files.now)) }
+    requires { bytes_in (map source_of files.items) ≤ 2 ^ 28 }
+    ensures read { Gives result (OverSources (map source_of files.items)) }
     ensures right { IfOk result (λ recipes. list_all is_right_recipe recipes ≡ true) }
     ensures few_rows { IfOk result (λ recipes. are_few_rows recipes ≡ true) }
     ensures names { IfOk result (λ recipes. map virtuals.recipe_name recipes
-        ≡ map (λ source. source.0) (map source_of files.now)) }
+        ≡ map (λ source. source.0) (map source_of files.items)) }
     ensures no_fault { EndsInReadFault result → ⊥ }
 {
     let recipes = recipes_of(rt, alloc, files)?;
@@ -46,13 +46,13 @@ fn read_over<R: Threads + Sync>(
 fn read_pile<R: Threads + Sync>(
     rt: &R,
     alloc: Global,
-    sources: &Sources,
+    sources: Sources,
 ) -> Result<ReadRecipes, ReadStop>
-    requires { IsInByteOrder (names_of sources.now) }
-    ensures read { Gives result (OverSources sources.now.files) }
+    requires { IsInByteOrder (names_of sources) }
+    ensures read { Gives result (OverSources sources.files) }
     ensures no_fault { EndsInReadFault result → ⊥ }
 {
-    match read_over(rt, alloc, sources.as_slice()) {
+    match read_over(rt, alloc, sources.into_files()) {
         Ok(recipes) => Ok(ReadRecipes::new(recipes)),
         Err(stop) => Err(stop),
     }
@@ -70,7 +70,5 @@ pub fn read_repository<R: Threads + Sync, D: Desk>(
     ensures only_reads { OnlyReads D.files D.faults D.put_faults desk.old desk.new result }
 {
     let sources = read_sources(alloc, desk, repo)?;
-    let read = read_pile(rt, alloc, &sources);
-    drop(sources);
-    read
+    read_pile(rt, alloc, sources)
 }

@@ -99,10 +99,10 @@ impl Sources {
     }
 
     /// The files, each as a name with bytes.
-    pub fn as_slice(&self) -> &[RecipeFile]
-        ensures files { map source_of result.now ≡ self.now.files }
-        ensures short { bytes_in (map source_of result.now) ≤ 2 ^ 28 }
+    pub(crate) fn into_files(self) -> Vec<RecipeFile>
+        ensures files { map source_of result.items ≡ self.files }
+        ensures short { bytes_in (map source_of result.items) ≤ 2 ^ 28 }
     {
-        self.files.as_slice()
+        self.files.into_vec()
     }
 }

@@ -8,4 +8,4 @@ use Rattle.run_input.proofs.repository.read_repository.Goals as goal
 pub returns-clause-read : goal.returns-clause-read
 returns-clause-read g c =
     put_over _ _ (λ path files. Is (pile_of files path)) (λ text pile. OverSources pile.files) _ c.args.repo.now c.args.repo.now [] []
-    c.in_ok-sources.sources c.read_pile-read.result refl refl c.in_ok-sources.ensures.read c.read_pile-read.ensures.read
+    c.in_ok-sources.sources c.read_pile.result refl refl c.in_ok-sources.ensures.read c.read_pile.ensures.read
