@@ -21,8 +21,8 @@ use problem::Problem;
 use proof_log::Log;
 use std::alloc::{AllocError, Global};
 
-/// Whether some graph is valid, and else the demands that a refutation rests on, with that refutation,
-/// where the search may learn so many clauses.
+/// Whether some graph is valid, and else the demands that a refutation rests on, with that
+/// refutation, where the search may learn so many clauses.
 ///
 /// The search is over the rules alone, so it ends at the first graph. Externals and records have
 /// values for their variants (`has_right_values`). `progress` is told how far it is.

@@ -86,8 +86,8 @@ fn end_run<R: Threads + Sync, D: Desk, O: Sink, E: Sink, P: Progress>(
     ended(status)
 }
 
-/// Answers the words over any devices, and ends with the number of the answer. Words that ask for a text of the program's own
-/// (`own_text`) get that; all others are `run`'s.
+/// Answers the words over any devices, and ends with the number of the answer. Words that ask for a
+/// text of the program's own (`own_text`) get that; all others are `run`'s.
 pub fn answer_words<R: Threads + Sync, D: Desk, O: Sink, E: Sink, P: Progress>(
     rt: &R,
     alloc: Global,

@@ -1,9 +1,10 @@
 //! The whole program, over a runtime: the top call over the files and the streams of the machine.
 //!
-//! What it is: `run_machine`, which takes the words behind the program's name and ends with an exit status; below it `answer_words`,
-//! which does so over any devices.
-//! What it promises: that status is the number of `run`'s answer, and all that `run` promises of that answer holds (`answer_words`). The
-//! word `--help` and the word `--version`, alone, are answered here (`own_text`).
+//! What it is: `run_machine`, which takes the words behind the program's name and ends with an exit
+//! status; below it `answer_words`, which does so over any devices.
+//! What it promises: that status is the number of `run`'s answer, and all that `run` promises of
+//! that answer holds (`answer_words`). The word `--help` and the word `--version`, alone, are
+//! answered here (`own_text`).
 //! What it stands on: `concretizer`, and the machine's devices of `outside_desk`.
 //! What it must not know: what the words of a command mean.
 //! It stands apart from `main` so that its tests run it too.
@@ -54,16 +55,17 @@ fn refused(error: &Error) -> ExitCode
     }
 }
 
-/// Runs the words behind the program's name over the machine's files. What is answered goes to `out`, and
-/// why a run stops to `err`. Where the environment names a file in `SPACK_CONCRETIZE_STAGE`, that holds what the run is at.
+/// Runs the words behind the program's name over the machine's files. What is answered goes to
+/// `out`, and why a run stops to `err`. Where the environment names a file in
+/// `SPACK_CONCRETIZE_STAGE`, that holds what the run is at.
 ///
-/// `concretize` and `each` are refused as Usage, before anything is read, where two files that they put lead to one file, or one of them
-/// to SETTINGS, DATABASE or a recipe that stands: what is put there would be lost to the other. `run` compares the words alone, since a
-/// desk tells no links.
+/// `concretize` and `each` are refused as Usage, before anything is read, where two files that they
+/// put lead to one file, or one of them to SETTINGS, DATABASE or a recipe that stands: what is put
+/// there would be lost to the other. `run` compares the words alone, since a desk tells no links.
 ///
-/// It ends with the number of the answer: its place in the list, from 0 for `Done` to 9 for `NoMemory`, and 11 for `Stale`.
-/// Where the system refuses the words it says nothing, and ends with 9 for want of memory and with 10 for
-/// any other cause.
+/// It ends with the number of the answer: its place in the list, from 0 for `Done` to 9 for
+/// `NoMemory`, and 11 for `Stale`. Where the system refuses the words it says nothing, and ends
+/// with 9 for want of memory and with 10 for any other cause.
 pub fn run_machine<R: Env + Files + AllocGlobal + Threads + Sync, O: Write + Drop, E: Write + Drop>(
     rt: &R,
     out: O,
@@ -80,7 +82,8 @@ pub fn run_machine<R: Env + Files + AllocGlobal + Threads + Sync, O: Write + Dro
     run_on_machine(rt, &words, out, err)
 }
 
-/// The same for words that the caller has. The word `--help` or `--version` alone is answered by a text on `out`, and no file is looked at.
+/// The same for words that the caller has. The word `--help` or `--version` alone is answered by a
+/// text on `out`, and no file is looked at.
 pub fn run_on_machine<
     R: Env + Files + AllocGlobal + Threads + Sync,
     O: Write + Drop,
@@ -98,8 +101,9 @@ pub fn run_on_machine<
     answer_on_machine(rt, words, &mut desk, &mut out, &mut err)
 }
 
-/// Answers the words over a desk of the machine, whatever it is supposed to hold: what `run` says of the files that a desk tells to the
-/// end so holds of each map of files with which all agrees that was read of the machine.
+/// Answers the words over a desk of the machine, whatever it is supposed to hold: what `run` says
+/// of the files that a desk tells to the end so holds of each map of files with which all agrees
+/// that was read of the machine.
 pub fn answer_on_machine<
     R: Env + Files + AllocGlobal + Threads + Sync,
     O: Write + Drop,

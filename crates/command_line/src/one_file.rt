@@ -1,4 +1,5 @@
-//! Files that a run would lose: one that it puts where that is another one that it puts, or one that it reads, by another spelling or by a link.
+//! Files that a run would lose: one that it puts where that is another one that it puts, or one
+//! that it reads, by another spelling or by a link.
 
 use concretizer::{Command, Work, read_command};
 use outside_desk::{Desk, DeskFault, FileId, RealDesk, file_id};
@@ -21,7 +22,8 @@ struct Put {
     file: FileId,
 }
 
-/// The file at a path. None where there is no path, no folder for it, or what stands there is no regular file: that loses nothing.
+/// The file at a path. None where there is no path, no folder for it, or what stands there is no
+/// regular file: that loses nothing.
 fn id_of<R: Files>(alloc: Global, rt: &R, path: &str) -> Result<Option<FileId>, AllocError> {
     if path == "-" {
         return Ok(None);
@@ -37,8 +39,9 @@ fn line_of(alloc: Global, name: &str, other: &str) -> Result<String, AllocError>
     format!(in alloc; "usage: {name} and {other} are one file\n")
 }
 
-/// What is said where two files that `concretize` or `each` puts are one, or one of them is SETTINGS, DATABASE or a recipe of REPO.
-/// The text of words that are no command, and of files that are not there, is left to the run.
+/// What is said where two files that `concretize` or `each` puts are one, or one of them is
+/// SETTINGS, DATABASE or a recipe of REPO. The text of words that are no command, and of files that
+/// are not there, is left to the run.
 pub fn one_file<R: Files>(
     alloc: Global,
     rt: &R,

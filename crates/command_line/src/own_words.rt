@@ -1,4 +1,5 @@
-//! What the program says of itself where its one word asks for that. To `run` that word is no command.
+//! What the program says of itself where its one word asks for that. To `run` that word is no
+//! command.
 
 ghost use Rattle.std.specs.Prelude.{◌≡◌, None, IfSome};
 ghost use Rattle.std.specs.Option.{option_map};
@@ -50,7 +51,8 @@ fn text_for(word: &str) -> Option<&'static str>
     }
 }
 
-/// The text that the words of a command line ask for: `--help` alone and `--version` alone. No command is among these words.
+/// The text that the words of a command line ask for: `--help` alone and `--version` alone. No
+/// command is among these words.
 pub fn own_text(words: &[String]) -> Option<&'static str>
     ensures text { option_map (λ text. text.now) result ≡ own_text (words_of words.now) }
     ensures no_command { IfSome result (λ _. command_of (words_of words.now) ≡ None) }

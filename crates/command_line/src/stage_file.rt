@@ -10,7 +10,8 @@ use std::{env, fs};
 /// The variable of the environment that names the file.
 const FILE: &str = "SPACK_CONCRETIZE_STAGE";
 
-/// A file of the machine that holds the stage of a run as one line, where the environment names one.
+/// A file of the machine that holds the stage of a run as one line, where the environment names
+/// one.
 ///
 /// A writing that fails is passed over, as want of memory for its text: the run goes on.
 #[derive(Drop)]

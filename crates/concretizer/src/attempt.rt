@@ -84,8 +84,8 @@ fn attempt_by<R: Threads + Sync, D: Desk, O: Sink, P: Progress>(
     Ok(answer?)
 }
 
-/// Reads the task that the words name, and writes its answer. The log of what was searched is kept, in the place of what was there,
-/// and `progress` is told how far the run is.
+/// Reads the task that the words name, and writes its answer. The log of what was searched is kept,
+/// in the place of what was there, and `progress` is told how far the run is.
 pub fn attempt<R: Threads + Sync, D: Desk, O: Sink, P: Progress>(
     rt: &R,
     alloc: Global,

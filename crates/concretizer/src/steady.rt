@@ -18,8 +18,9 @@ use run_output::{Log, Status, Untold};
 use std::alloc::Global;
 use std::thread::Threads;
 
-/// `run` over files and sinks in memory, none of which fails. So no fault is answered, and input that
-/// nothing refuses is Done, Unsatisfiable, Undecided, Stale or NoMemory, and input that is refused is answered so. Nobody is told how far it is.
+/// `run` over files and sinks in memory, none of which fails. So no fault is answered, and input
+/// that nothing refuses is Done, Unsatisfiable, Undecided, Stale or NoMemory, and input that is
+/// refused is answered so. Nobody is told how far it is.
 pub fn run_steady<R: Threads + Sync>(
     rt: &R,
     alloc: Global,

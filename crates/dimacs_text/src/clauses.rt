@@ -26,7 +26,8 @@ pub(crate) fn write_size(
     out.extend_from_slice(b"\n")
 }
 
-/// The comment that says how many variables and clauses the rules have: those in front of all others, which a refutation is over.
+/// The comment that says how many variables and clauses the rules have: those in front of all
+/// others, which a refutation is over.
 #[tactic(auto, unfolding(crate::specs::Clauses::rules_line))]
 pub fn rules_line(alloc: Global, rules: &ClauseList) -> Result<Vec<u8>, AllocError>
     ensures { IfOk result (λ line. line.items ≡ lines.rules_line rules.now) }

@@ -32,11 +32,13 @@ fn refused(error: &Error) -> ExitCode {
     }
 }
 
-/// Says on `out` the encoding that the words behind the program's name ask for, over the machine's files, and on `err` why a run stops.
+/// Says on `out` the encoding that the words behind the program's name ask for, over the machine's
+/// files, and on `err` why a run stops.
 ///
-/// It ends with the place of the answer in the list of answers: 0 for `Done`, 2 for `Usage`, 4 for `BadInput`, 5 for `ReadFault`, 6 for
-/// `WriteFault`, 7 for `TooLarge`, 9 for `NoMemory`. Where the system refuses the words it says nothing, and ends with 9 for want of
-/// memory and with 10 for any other cause.
+/// It ends with the place of the answer in the list of answers: 0 for `Done`, 2 for `Usage`, 4 for
+/// `BadInput`, 5 for `ReadFault`, 6 for `WriteFault`, 7 for `TooLarge`, 9 for `NoMemory`. Where the
+/// system refuses the words it says nothing, and ends with 9 for want of memory and with 10 for any
+/// other cause.
 pub fn dimacs_machine<
     R: Env + Files + Threads + Sync + AllocGlobal,
     O: Write + Drop,

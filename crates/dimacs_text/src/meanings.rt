@@ -98,7 +98,8 @@ fn hex_digit(value: u8) -> u8
     if value < 10 { 48 + value } else { 87 + value }
 }
 
-/// A byte as it is, or behind a backslash in hexadecimal digits where it is none but white space or a control byte, or a backslash.
+/// A byte as it is, or behind a backslash in hexadecimal digits where it is none but white space or
+/// a control byte, or a backslash.
 #[tactic(auto, unfolding(crate::specs::Meanings::safe_byte))]
 fn write_safe_byte(byte: u8, out: &mut Vec<u8>) -> Result<(), AllocError>
     ensures { OnOk result (out.new.items ≡ out.old.items ++ meanings.safe_byte byte) }

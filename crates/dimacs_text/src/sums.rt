@@ -88,7 +88,8 @@ fn write_weight(alloc: Global, place: u64, weight: u64, out: &mut Vec<u8>) -> Re
     out.extend_from_slice(b"\n")
 }
 
-/// A bit by its literal, its place among all bits, the number that it belongs to, and its weight there.
+/// A bit by its literal, its place among all bits, the number that it belongs to, and its weight
+/// there.
 #[tactic(auto, unfolding(crate::specs::Sums::bit_line))]
 fn write_bit(
     alloc: Global,

@@ -13,11 +13,11 @@ use literal_table::LiteralTable;
 use problem::Problem;
 use std::alloc::{AllocError, Global};
 
-/// Clauses as DIMACS: comments first, then how many variables and clauses there are, and then the clauses. Variables count
-/// from 1.
+/// Clauses as DIMACS: comments first, then how many variables and clauses there are, and then the
+/// clauses. Variables count from 1.
 ///
-/// The comments are a line for each choice of the table, for each clause that is there for a demand of the problem, for each
-/// number with its bits, and for each bit. An error is want of memory.
+/// The comments are a line for each choice of the table, for each clause that is there for a demand
+/// of the problem, for each number with its bits, and for each bit. An error is want of memory.
 #[tactic(auto, unfolding(crate::specs::Texts::dimacs_text))]
 pub fn dimacs_text(
     alloc: Global,

@@ -51,8 +51,9 @@ fn report<E: Sink>(alloc: Global, err: &mut E, stop: &Stop) -> Status
     }
 }
 
-/// Says the encoding of the problem that the words `REPO SETTINGS DATABASE SPEC..` name, as DIMACS with a comment for each choice of
-/// the table, each clause of a demand, each number and each of its bits.
+/// Says the encoding of the problem that the words `REPO SETTINGS DATABASE SPEC..` name, as DIMACS
+/// with a comment for each choice of the table, each clause of a demand, each number and each of
+/// its bits.
 ///
 /// `out` gets the text; `err` gets one line where a run stops before its end.
 pub fn run<R: Threads + Sync, D: Desk, O: Sink, E: Sink>(
@@ -75,8 +76,8 @@ pub fn run<R: Threads + Sync, D: Desk, O: Sink, E: Sink>(
         → ¬ Rose (E.faults err.old) (E.faults err.new)
         → IsAnsweredBy (status_of posed) result) }
 
-    // Faults come from outside, and are told. Reading stops before anything is said; where the sink of the answer fails, a front of
-    // the text was.
+    // Faults come from outside, and are told. Reading stops before anything is said; where the sink
+    // of the answer fails, a front of the text was.
     ensures read_fault { result ≡ Status.ReadFault →
         IsReadFault (D.files desk.new) (explained (words_of words.now))
         (D.faults desk.old, D.faults desk.new)
@@ -91,7 +92,8 @@ pub fn run<R: Threads + Sync, D: Desk, O: Sink, E: Sink>(
         (O.faults out.old, O.faults out.new)
         (O.said out.old, O.said out.new) (E.said err.old, E.said err.new) }
 
-    // Any other answer is of a run in which no device failed: none that did is asked again, or passed over.
+    // Any other answer is of a run in which no device failed: none that did is asked again, or
+    // passed over.
     ensures steady { ¬ IsFault result → (D.faults desk.new ≡ D.faults desk.old)
         × (O.faults out.new ≡ O.faults out.old) × (E.faults err.new ≡ E.faults err.old) }
 

@@ -10,8 +10,9 @@ ghost use Rattle.concretizer.specs.Headline.{IsReadFault};
 
 use run_input::{input_laws, site_laws};
 
-/// A fault hides no refusal that is due before it. Where the settings are refused, ReadFault names the
-/// file of the settings alone; where the input is refused, none of the lock files and certificates.
+/// A fault hides no refusal that is due before it. Where the settings are refused, ReadFault names
+/// the file of the settings alone; where the input is refused, none of the lock files and
+/// certificates.
 pub fn fault_laws()
     ensures settings { (files : Files) (words : List (List ℕ)) (faults : ℕ × ℕ)
         (after : Option Files) (out err : Spoken) (command : Command) (refusal : Refusal)

@@ -1,7 +1,7 @@
-//! `search BUDGET VARS BITS.. 0 CLAUSES..`: the least bits; `trim` and the same words: with the shorter log;
-//! `numbers BUDGET VARS ENDS.. 0 PARTS.. 0 BITS.. 0 CLAUSES..`: the same where the bits spell
-//! numbers that end before these places, each with these parts; `within` and the same words: only
-//! what was found, so that these rows show how much a search has to learn.
+//! `search BUDGET VARS BITS.. 0 CLAUSES..`: the least bits; `trim` and the same words: with the
+//! shorter log; `numbers BUDGET VARS ENDS.. 0 PARTS.. 0 BITS.. 0 CLAUSES..`: the same where the
+//! bits spell numbers that end before these places, each with these parts; `within` and the same
+//! words: only what was found, so that these rows show how much a search has to learn.
 use crate::input::{are_below, clauses_of, lits_of, number_of, places_of};
 use crate::output::{push_line, push_log, push_model, said_no};
 use log_trim::trim_found;

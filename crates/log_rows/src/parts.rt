@@ -1,7 +1,7 @@
-//! `parts BUDGET VARS BITS.. 0 CLAUSES.. | BITS.. 0 CLAUSES..`: two lists of clauses that are apart,
-//! each over so many variables, solved in two halves that wait for each other; and then their logs,
-//! checked in two such halves. A log is checked as a certificate of the bits that the model has, or of
-//! no true variable where there is no model.
+//! `parts BUDGET VARS BITS.. 0 CLAUSES.. | BITS.. 0 CLAUSES..`: two lists of clauses that are
+//! apart, each over so many variables, solved in two halves that wait for each other; and then
+//! their logs, checked in two such halves. A log is checked as a certificate of the bits that the
+//! model has, or of no true variable where there is no model.
 ghost use Rattle.std.specs.Prelude.{All, IfSome, IfOk};
 ghost use Rattle.root_groups.specs.Solved.{IsInRange};
 

@@ -2,7 +2,8 @@
 //!
 //! What it is: the rows of rules of nodes to build, kept nodes and providers, each one formula.
 //! What it promises: each builder answers what its row computes, and errs for want of memory alone.
-//! What it stands on: `word_formulas` for facts and parts, `rule_checks` for the nodes of externals.
+//! What it stands on: `word_formulas` for facts and parts, `rule_checks` for the nodes of
+//! externals.
 //! What it must not know: clauses, paths, conditions.
 #![tactic(auto)]
 

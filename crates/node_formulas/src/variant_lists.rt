@@ -95,7 +95,8 @@ fn push_same(
     push_just(alloc, parts, choices, values)
 }
 
-// A variant that is offered has its values where it comes next, and else none; gives the variants behind it.
+// A variant that is offered has its values where it comes next, and else none; gives the variants
+// behind it.
 fn push_offer<'a>(
     alloc: Global,
     parts: &mut Vec<Formula>,

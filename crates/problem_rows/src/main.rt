@@ -6,8 +6,8 @@
 //! questions there are.
 //! The answers in the tables come from the rules, never from what the crates answer.
 //! It stands on `target_table`, `graph_core`, `virtuals`, `condition_rules`, `problem`,
-//! `possible_closure`, `spec_find` and `install_plan`, and reads recipes, specs and graphs for them.
-//! Nothing stands on it.
+//! `possible_closure`, `spec_find` and `install_plan`, and reads recipes, specs and graphs for
+//! them. Nothing stands on it.
 #![tactic(auto)]
 
 mod ask;

@@ -1,8 +1,8 @@
 //! Rows over a table of targets or a graph of their own.
 //!
 //! What stands behind `over` is `targets` or `graph`, what it is made of, and questions, each
-//! behind a `|`; or `plan` and the items of a graph. The items and the questions stand at `targets`,
-//! `graphs` and `plans`; a question that no call takes is answered by `no`.
+//! behind a `|`; or `plan` and the items of a graph. The items and the questions stand at
+//! `targets`, `graphs` and `plans`; a question that no call takes is answered by `no`.
 
 use crate::{graphs, plans, targets};
 use std::alloc::{AllocError, Global};

@@ -50,8 +50,8 @@ fn best_in_turn<G: Gate>(
     Ok(answers)
 }
 
-/// The same of each of some problems, at most so many beside each other: while there are two threads
-/// or more, and two problems or more, both are halved.
+/// The same of each of some problems, at most so many beside each other: while there are two
+/// threads or more, and two problems or more, both are halved.
 #[cycle(beside)]
 fn best_beside<R: Threads + Sync, G: Gate>(
     rt: &R,
@@ -90,12 +90,12 @@ fn best_beside<R: Threads + Sync, G: Gate>(
     Ok(all)
 }
 
-/// The best graph of each of some problems, where each search may learn so many clauses: at each place
-/// what `best_graph` gives of the problem there. An error is want of memory.
+/// The best graph of each of some problems, where each search may learn so many clauses: at each
+/// place what `best_graph` gives of the problem there. An error is want of memory.
 ///
 /// The problems are split into two halves, of which the first is rounded up, and each half into as
-/// many parts as it has processors. A part is one thread's, which has one encoding at a time. A half
-/// tells the gate its number and a problem's place directly before it solves that problem.
+/// many parts as it has processors. A part is one thread's, which has one encoding at a time. A
+/// half tells the gate its number and a problem's place directly before it solves that problem.
 pub fn best_of_each<R: Threads + Sync, G: Gate>(
     rt: &R,
     alloc: Global,

@@ -12,7 +12,8 @@ use proof_log::Log;
 use std::alloc::{AllocError, Global};
 use std::thread::{Threads, join};
 
-/// A part, the values that its bits are to have, and the log that is to show that no others are less.
+/// A part, the values that its bits are to have, and the log that is to show that no others are
+/// less.
 #[derive(Drop)]
 pub struct CheckedPart {
     pub part: Part,

@@ -76,8 +76,8 @@ pub fn broken_directives()
 
 /// The rules of providers and of the graph as a whole, one by one.
 ///
-/// `Provider` is broken alone only where kept nodes alone name the virtual (`broken_names`): where a
-/// built node does, its directive asks for a provision too.
+/// `Provider` is broken alone only where kept nodes alone name the virtual (`broken_names`): where
+/// a built node does, its directive asks for a provision too.
 pub fn broken_wholes()
     ensures provider { broken_rules realistic provider_that_does_not ≡ Rule.Provider
         ∷ Rule.UnusedProvider ∷ [] }

@@ -1,11 +1,13 @@
 //! What a run answers: its status, why it stops before its end, and what is said of that.
 //!
-//! What it is: `Status` with the exit numbers, `Refusal` of input, `Stop`s of the words, of reading and of writing, and their lines;
-//! the texts of the faults inside them; `write_reasons`, a line for each of some demands of a problem.
-//! What it promises: each refusal and each stop has exactly the status and the line that the definitions give. A fault's text is its
-//! name and its fields in order, with one space between them, and so is that of a fault inside another one.
-//! What it stands on: the crates whose faults it writes; `problem` for demands, `spec_grammar` for the texts of roots, and
-//! `outside_desk` for what a call that only reads leaves of a desk.
+//! What it is: `Status` with the exit numbers, `Refusal` of input, `Stop`s of the words, of reading
+//! and of writing, and their lines; the texts of the faults inside them; `write_reasons`, a line
+//! for each of some demands of a problem.
+//! What it promises: each refusal and each stop has exactly the status and the line that the
+//! definitions give. A fault's text is its name and its fields in order, with one space between
+//! them, and so is that of a fault inside another one.
+//! What it stands on: the crates whose faults it writes; `problem` for demands, `spec_grammar` for
+//! the texts of roots, and `outside_desk` for what a call that only reads leaves of a desk.
 //! What it must not know: which commands there are, when they refuse, and why demands are named.
 #![tactic(auto)]
 

@@ -3,8 +3,8 @@
 ghost use Rattle.std.specs.Prelude.{◌≡◌};
 ghost use Rattle.run_answers.specs.Refusals as lines;
 
-/// Why a line of a certificate is refused: the first that holds, in this order. What each means is in
-/// `docs/formats/proof_log.md`.
+/// Why a line of a certificate is refused: the first that holds, in this order. What each means is
+/// in `docs/formats/proof_log.md`.
 #[derive(Clone, Copy, Debug, PartialEq, Eq)]
 pub enum LineFault {
     /// It spells no line, or has no end.

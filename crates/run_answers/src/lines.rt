@@ -150,10 +150,10 @@ fn write_demand(
     }
 }
 
-/// A line for each demand, by its number among those of the problem, from 0: `root N TEXT` with the place and the
-/// canonical text of a root, `PACKAGE depends_on N`, `PACKAGE conflicts N` or `PACKAGE requires N` with the number of a
-/// directive, `PACKAGE require N` with the place of a requirement of the settings. Numbers that no
-/// demand has are passed over.
+/// A line for each demand, by its number among those of the problem, from 0: `root N TEXT` with the
+/// place and the canonical text of a root, `PACKAGE depends_on N`, `PACKAGE conflicts N` or
+/// `PACKAGE requires N` with the number of a directive, `PACKAGE require N` with the place of a
+/// requirement of the settings. Numbers that no demand has are passed over.
 pub fn write_reasons(
     alloc: Global,
     problem: &Problem,

@@ -58,7 +58,8 @@ pub enum Refusal {
     BadLock(LockFault),
     /// The roots of the lock file are not those that are asked for, with the hashes of their nodes.
     OtherRoots,
-    /// The graph of the lock file breaks the rule, at the node and there at the number of a directive.
+    /// The graph of the lock file breaks the rule, at the node and there at the number of a
+    /// directive.
     BrokenRule(Rule, Word, u64),
     /// The certificate is longer than 2^63 - 1 bytes.
     CertificateTooLarge,

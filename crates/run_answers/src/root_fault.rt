@@ -76,7 +76,8 @@ fn other_root_line(alloc: Global, root: u64) -> Result<String, AllocError>
 }
 
 impl RootFault {
-    /// The line that is said of it: that of the same fault of one lock file, with the root's number.
+    /// The line that is said of it: that of the same fault of one lock file, with the root's
+    /// number.
     pub(crate) fn line(&self, alloc: Global, root: u64) -> Result<String, AllocError>
         ensures { IfOk result (λ line. string_bytes line ≡ lines.line_of_root root self.now) }
     {

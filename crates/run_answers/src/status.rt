@@ -31,8 +31,8 @@ pub enum Status {
 }
 
 impl Status {
-    /// The exit status: from 0 for `Done` to 9 for `NoMemory` the answer's place in the list of answers, and 11 for `Stale`, since
-    /// the program ends with 10 where it is handed no words.
+    /// The exit status: from 0 for `Done` to 9 for `NoMemory` the answer's place in the list of
+    /// answers, and 11 for `Stale`, since the program ends with 10 where it is handed no words.
     pub fn number(self) -> u8
         ensures { result ≡ number_of self }
     {

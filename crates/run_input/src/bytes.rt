@@ -15,8 +15,9 @@ use std::alloc::Global;
 ///
 /// # Errors
 ///
-/// `MissingInput` where there is no such file; `SettingsTooLarge`, `DatabaseTooLarge` or `LockTooLarge` where it has
-/// more bytes than a file of its kind may have. `Fault` where the desk failed, with the path, and nowhere else a fault of the desk (`told`).
+/// `MissingInput` where there is no such file; `SettingsTooLarge`, `DatabaseTooLarge` or
+/// `LockTooLarge` where it has more bytes than a file of its kind may have. `Fault` where the desk
+/// failed, with the path, and nowhere else a fault of the desk (`told`).
 #[tactic(auto, unfolding(crate::specs::Bytes::bytes_at))]
 pub fn read_bytes<D: Desk>(
     alloc: Global,
@@ -31,7 +32,8 @@ pub fn read_bytes<D: Desk>(
     ensures only_reads { OnlyReads D.files D.faults D.put_faults desk.old desk.new result }
     ensures told { ¬ EndsInReadFault result → D.faults desk.new ≡ D.faults desk.old }
 {
-    // It is made first: behind a fault of the desk nothing more can fail, so that it is told as one.
+    // It is made first: behind a fault of the desk nothing more can fail, so that it is told as
+    // one.
     let name = Word::new(alloc, path)?;
     match read_whole(alloc, desk, path, file.limit()) {
         Ok(bytes) => Ok(bytes),

@@ -122,8 +122,9 @@ fn read_asked(alloc: Global, stock: Stock, spec: &str) -> Result<Input, ReadStop
 ///
 /// # Errors
 ///
-/// The first refusal that is due, in the order of work: the settings, the listing and the reading of all recipe files,
-/// their parsing, the clash of names, the database, the specs, the roots, the closure. `Fault` where the desk failed.
+/// The first refusal that is due, in the order of work: the settings, the listing and the reading
+/// of all recipe files, their parsing, the clash of names, the database, the specs, the roots, the
+/// closure. `Fault` where the desk failed.
 #[tactic(auto, using(crate::proofs::Failing::of_stock))]
 pub fn read_input<R: Threads + Sync, D: Desk>(
     rt: &R,

@@ -36,12 +36,13 @@ fn database_in(alloc: Global, bytes: &[u8]) -> Result<Database, ReadStop>
     }
 }
 
-/// The database that a path names: that of the file there, or one without records where the path is `-`.
+/// The database that a path names: that of the file there, or one without records where the path is
+/// `-`.
 ///
 /// # Errors
 ///
-/// `MissingInput` where there is no such file, `DatabaseTooLarge` beyond 64 MiB, `BadDatabase` with the first
-/// fault of the text. `Fault` where the desk failed, with the path.
+/// `MissingInput` where there is no such file, `DatabaseTooLarge` beyond 64 MiB, `BadDatabase` with
+/// the first fault of the text. `Fault` where the desk failed, with the path.
 pub fn read_installed<D: Desk>(
     alloc: Global,
     desk: &mut D,

@@ -1,12 +1,15 @@
 //! What a run reads before the command's own work.
 //!
-//! What it is: `read_input` of a command over a desk: the problem that its recipes, settings and specs pose, with the names that nodes
-//! of its graphs may have; `read_query` of a command that looks for installed packages: the problem without roots, and the condition
-//! that the packages are to meet. Below them `read_bytes` of one file, `read_site` of the settings, `read_installed` of the database,
-//! `read_sources` of the recipe files, and the types of what was read, which keep what holds of it (`parts.rt`).
-//! What it promises: exactly this, or the refusal that is due first, whatever the desk; a device's fault only where its count rose.
-//! What it stands on: `outside_desk` for files, the reader of each text, `problem` and `possible_closure` for what they pose, and
-//! `run_answers` for refusals.
+//! What it is: `read_input` of a command over a desk: the problem that its recipes, settings and
+//! specs pose, with the names that nodes of its graphs may have; `read_query` of a command that
+//! looks for installed packages: the problem without roots, and the condition that the packages are
+//! to meet. Below them `read_bytes` of one file, `read_site` of the settings, `read_installed` of
+//! the database, `read_sources` of the recipe files, and the types of what was read, which keep
+//! what holds of it (`parts.rt`).
+//! What it promises: exactly this, or the refusal that is due first, whatever the desk; a device's
+//! fault only where its count rose.
+//! What it stands on: `outside_desk` for files, the reader of each text, `problem` and
+//! `possible_closure` for what they pose, and `run_answers` for refusals.
 //! What it must not know: what a command does with it.
 #![tactic(auto)]
 

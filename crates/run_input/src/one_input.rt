@@ -11,7 +11,8 @@ ghost use Rattle.run_input.specs.Inputs.{ReadsInput, Seeks};
 use crate::{installed_laws, site_laws};
 use spec_grammar::reading_laws;
 
-/// A command names one input at most over files, or is due one refusal at most; and it looks for one thing at most, or is due one.
+/// A command names one input at most over files, or is due one refusal at most; and it looks for
+/// one thing at most, or is due one.
 pub fn input_laws()
     ensures one { (files : Files) (command : Command) (a b : Result Input Refusal)
         → ReadsInput files command a

@@ -18,7 +18,8 @@ use site_settings::Settings;
 use spec_grammar::Spec;
 use std::marker::Model;
 
-/// Settings: what they say of an external has a value for each variant, and they are within the limit of a problem's.
+/// Settings: what they say of an external has a value for each variant, and they are within the
+/// limit of a problem's.
 #[derive(Drop)]
 pub struct ReadSettings {
     settings: Settings,
@@ -53,7 +54,8 @@ impl ReadSettings {
     }
 }
 
-/// Recipes in byte order of their names, each right, with no more rows together than a problem may have.
+/// Recipes in byte order of their names, each right, with no more rows together than a problem may
+/// have.
 #[derive(Drop)]
 pub struct ReadRecipes {
     recipes: List<Recipe>,
@@ -92,7 +94,8 @@ impl ReadRecipes {
     }
 }
 
-/// Records, each with its variants in byte order of their names and a value for each, no more than a problem may have.
+/// Records, each with its variants in byte order of their names and a value for each, no more than
+/// a problem may have.
 #[derive(Drop)]
 pub struct ReadRecords {
     records: Database,

@@ -103,8 +103,9 @@ fn read_sought(alloc: Global, stock: Stock, spec: &str) -> Result<Query, ReadSto
 ///
 /// # Errors
 ///
-/// The first refusal that is due, in the order of work: the settings, the listing and the reading of all recipe files,
-/// their parsing, the clash of names, the database, the condition. `Fault` where the desk failed.
+/// The first refusal that is due, in the order of work: the settings, the listing and the reading
+/// of all recipe files, their parsing, the clash of names, the database, the condition. `Fault`
+/// where the desk failed.
 #[tactic(auto, using(crate::proofs::Failing::of_stock))]
 pub fn read_query<R: Threads + Sync, D: Desk>(
     rt: &R,

@@ -74,14 +74,14 @@ fn read_entries<D: Desk>(
 
 /// The recipe files of a repository: `REPO/packages/NAME/package.py`, in byte order of the names.
 ///
-/// An entry of `REPO/packages` whose name is no NAME, or that has no `package.py`, is passed over. A folder
-/// that is there and empty, which a real disk may have, gives no recipes.
+/// An entry of `REPO/packages` whose name is no NAME, or that has no `package.py`, is passed over.
+/// A folder that is there and empty, which a real disk may have, gives no recipes.
 ///
 /// # Errors
 ///
-/// `MissingInput` where there is no such folder. Of each recipe in turn: `TooManyRecipes` where it is the
-/// 16,385th one, then `RecipeTooLarge` beyond 1 MiB, then `RecipesTooLarge` where all so far have more than
-/// 256 MiB. `Fault` where the desk failed, with the path.
+/// `MissingInput` where there is no such folder. Of each recipe in turn: `TooManyRecipes` where it
+/// is the 16,385th one, then `RecipeTooLarge` beyond 1 MiB, then `RecipesTooLarge` where all so far
+/// have more than 256 MiB. `Fault` where the desk failed, with the path.
 #[tactic(auto, unfolding(crate::specs::Sources::pile_of))]
 pub fn read_sources<D: Desk>(alloc: Global, desk: &mut D, repo: &str) -> Result<Sources, ReadStop>
     ensures read { IfSome (D.files desk.new) (λ files. Gives result (Is (pile_of files repo.now))) }

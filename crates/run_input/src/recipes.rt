@@ -79,8 +79,8 @@ fn recipes_in_turn<R: Threads + Sync>(
     }
 }
 
-/// The recipes of files, one of each and in their order. They are read in turns, and the bytes of a turn go before
-/// the next one, so that what is made of them takes their room.
+/// The recipes of files, one of each and in their order. They are read in turns, and the bytes of a
+/// turn go before the next one, so that what is made of them takes their room.
 pub fn recipes_of<R: Threads + Sync>(
     rt: &R,
     alloc: Global,

@@ -35,12 +35,13 @@ fn settings_in(alloc: Global, bytes: &[u8]) -> Result<Settings, ReadStop>
     }
 }
 
-/// The settings that a path names: those of the file there, or the standard ones where the path is `-`.
+/// The settings that a path names: those of the file there, or the standard ones where the path is
+/// `-`.
 ///
 /// # Errors
 ///
-/// `MissingInput` where there is no such file, `SettingsTooLarge` beyond 16 MiB, `BadSettings` with the first
-/// fault of the text. `Fault` where the desk failed, with the path.
+/// `MissingInput` where there is no such file, `SettingsTooLarge` beyond 16 MiB, `BadSettings` with
+/// the first fault of the text. `Fault` where the desk failed, with the path.
 pub fn read_site<D: Desk>(alloc: Global, desk: &mut D, path: &str) -> Result<ReadSettings, ReadStop>
     ensures read { IfSome (D.files desk.new) (λ files. Gives result (SettingsAt files path.now)) }
     ensures path { FailsThere path.now result }

@@ -68,8 +68,9 @@ fn read_over<R: Threads + Sync, D: Desk>(
 ///
 /// # Errors
 ///
-/// The first refusal that is due, in the order of work: the settings, the listing and the reading of all recipe files,
-/// their parsing, the clash of names, the database. `Fault` where the desk failed.
+/// The first refusal that is due, in the order of work: the settings, the listing and the reading
+/// of all recipe files, their parsing, the clash of names, the database. `Fault` where the desk
+/// failed.
 #[tactic(auto, using(crate::proofs::Failing::of_settings))]
 pub(crate) fn read_stock<R: Threads + Sync, D: Desk>(
     rt: &R,

@@ -88,10 +88,11 @@ fn tell<O: Sink>(alloc: Global, _task: &Task, said: Said, out: &mut O) -> Result
     Ok(said.outcome)
 }
 
-/// Writes the answer of a task: of a problem to solve the certificate at `cert`, unless that is `-`, then the lock file at `lock`
-/// where there is a graph, and then what is said; of the problem of each root by itself the files of all roots in the folder that
-/// `lock` then is, and what is said; of any other task what is said alone. The log of a search that answered is kept,
-/// and `progress` is told how far it is.
+/// Writes the answer of a task: of a problem to solve the certificate at `cert`, unless that is
+/// `-`, then the lock file at `lock` where there is a graph, and then what is said; of the problem
+/// of each root by itself the files of all roots in the folder that `lock` then is, and what is
+/// said; of any other task what is said alone. The log of a search that answered is kept, and
+/// `progress` is told how far it is.
 pub fn write_answer<R: Threads + Sync, D: Desk, O: Sink, P: Progress>(
     rt: &R,
     alloc: Global,

@@ -1,12 +1,12 @@
 //! What a run writes: the certificate, the lock file and the lines of an answer.
 //!
-//! What it is: `write_answer`, which finds the best graph of a problem and writes the answer; `write_valid`, the text of the lock file of
-//! a valid graph.
-//! What it promises: the files and the lines are those of an answer of the problem; what stands after a fault. A valid graph can be
-//! written, since the rules demand it.
-//! What it stands on: `run_task` for what is asked and for the answer, `graph_rules` for validity, `lock_writer` for the lock file,
-//! `root_graphs` for many roots by themselves, `spec_find` for installed packages that are looked for, `install_plan` for the order of a
-//! build.
+//! What it is: `write_answer`, which finds the best graph of a problem and writes the answer;
+//! `write_valid`, the text of the lock file of a valid graph.
+//! What it promises: the files and the lines are those of an answer of the problem; what stands
+//! after a fault. A valid graph can be written, since the rules demand it.
+//! What it stands on: `run_task` for what is asked and for the answer, `graph_rules` for validity,
+//! `lock_writer` for the lock file, `root_graphs` for many roots by themselves, `spec_find` for
+//! installed packages that are looked for, `install_plan` for the order of a build.
 //! What it must not know: words, and how the problem was read.
 #![tactic(auto)]
 

@@ -30,7 +30,8 @@ pub fn put_file<D: Desk>(
     ensures steady { OnOk result (D.put_faults desk.new ≡ D.put_faults desk.old) }
     ensures told { ¬ EndsInPutFault result → D.put_faults desk.new ≡ D.put_faults desk.old }
 {
-    // It is made first: behind a fault of the desk nothing more can fail, so that it is told as one.
+    // It is made first: behind a fault of the desk nothing more can fail, so that it is told as
+    // one.
     let name = Word::new(alloc, path)?;
     match desk.put(alloc, path, text) {
         Ok(()) => Ok(()),

@@ -155,7 +155,8 @@ pub fn report_text(alloc: Global, nodes: &[Node], numbers: &[u64]) -> Result<Vec
     Ok(text)
 }
 
-/// The lines of a node that is built, an external and an installed one, and a vector's line, by computation.
+/// The lines of a node that is built, an external and an installed one, and a vector's line, by
+/// computation.
 pub fn worked_texts()
     ensures line { node_line worked_node
         ≡ codes "zlib@=1.3 %gcc@=12.3.0 os=ubuntu22.04 target=x86_64 built\n" }

@@ -7,7 +7,8 @@ ghost use Rattle.run_output.specs.Answers.{HasSpent};
 ghost use Rattle.run_output.specs.Budgets.{budget_of};
 ghost use Rattle.run_output.specs.Senses.{meaning};
 
-/// A task is left undecided only under a budget below 2^64 - 1: never under that of the standard settings.
+/// A task is left undecided only under a budget below 2^64 - 1: never under that of the standard
+/// settings.
 #[tactic(auto, using(crate::proofs::Spent::spent_below))]
 pub fn budget_laws()
     ensures { (lock cert : List ℕ) (task : Task) (before after : Option Files)

@@ -13,7 +13,8 @@ use problem::Problem;
 use run_task::{Answer, WriteStop, vector};
 use std::alloc::{AllocError, Global};
 
-/// Says a text on the sink of the answer. A fault of the sink is told as one, and as nothing else (`told`).
+/// Says a text on the sink of the answer. A fault of the sink is told as one, and as nothing else
+/// (`told`).
 pub fn say<O: Sink>(alloc: Global, out: &mut O, text: &[u8]) -> Result<(), WriteStop>
     ensures left { SaysText text.now (O.said out.old) (O.said out.new) result }
     ensures cause { Counts (O.faults out.old) (O.faults out.new) (EndsInOutputFault result) }

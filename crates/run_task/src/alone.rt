@@ -8,8 +8,8 @@ use possible_closure::{ClosureFault, alone_laws, closure};
 use run_input::Input;
 use std::alloc::{AllocError, Global};
 
-/// The problem that has one of the roots as its only one, with the names that its nodes may have. These
-/// are no more than those of all roots together, so that none is refused.
+/// The problem that has one of the roots as its only one, with the names that its nodes may have.
+/// These are no more than those of all roots together, so that none is refused.
 #[tactic(auto, using(crate::proofs::OneRoot::not_too_many))]
 pub fn alone_input(alloc: Global, input: &Input, place: usize) -> Result<Input, AllocError>
     requires posed { IsPosed input.now }

@@ -103,7 +103,8 @@ fn check_refutation<R: Threads + Sync, D: Desk>(
     check_log(rt, alloc, desk, path, &rules.clauses, &[], None)
 }
 
-/// Reads the certificate at a path, and has it checked as one of the costs of a graph, over the encoding of a problem.
+/// Reads the certificate at a path, and has it checked as one of the costs of a graph, over the
+/// encoding of a problem.
 fn check_costs<R: Threads + Sync, D: Desk>(
     rt: &R,
     alloc: Global,
@@ -141,15 +142,15 @@ fn check_costs<R: Threads + Sync, D: Desk>(
     }
 }
 
-/// Reads the certificate at a path: whether it shows that a valid graph of the problem with these costs is optimal, or,
-/// without costs, that no graph is valid.
+/// Reads the certificate at a path: whether it shows that a valid graph of the problem with these
+/// costs is optimal, or, without costs, that no graph is valid.
 ///
 /// It is read in pieces of 65,536 bytes, and a line that is refused ends the reading.
 ///
 /// # Errors
 ///
-/// The first refusal that is due: `MissingInput`, `BadCertificate` with the first line that is refused, `CertificateTooLarge`
-/// beyond 2^63 - 1 bytes. `Fault` where the desk failed.
+/// The first refusal that is due: `MissingInput`, `BadCertificate` with the first line that is
+/// refused, `CertificateTooLarge` beyond 2^63 - 1 bytes. `Fault` where the desk failed.
 pub fn read_certificate<R: Threads + Sync, D: Desk>(
     rt: &R,
     alloc: Global,

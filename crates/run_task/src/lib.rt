@@ -1,11 +1,14 @@
 //! What a run is to answer.
 //!
-//! What it is: `read_task` of a command over a desk: what is read is one for all commands, and each command's own work is one case of
-//! `Task`. Below it `read_verdict` of a lock file, which `judge` says, and `read_certificate` of a log, which `check` and `refute` say.
-//! What it promises: exactly the task, or the refusal that is due first, whatever the desk; a device's fault only where its count
-//! rose. What a yes shows of the problem's graphs; and by `again_laws`, that the check says yes to what a search wrote.
-//! What it stands on: `run_input` for what is read, `lockfile`, `graph_judge` and `cost_vector` for lock files, `certified` for logs,
-//! `best_graph` for the clauses and what they mean, `trial_input` for the files of trials.
+//! What it is: `read_task` of a command over a desk: what is read is one for all commands, and each
+//! command's own work is one case of `Task`. Below it `read_verdict` of a lock file, which `judge`
+//! says, and `read_certificate` of a log, which `check` and `refute` say.
+//! What it promises: exactly the task, or the refusal that is due first, whatever the desk; a
+//! device's fault only where its count rose. What a yes shows of the problem's graphs; and by
+//! `again_laws`, that the check says yes to what a search wrote.
+//! What it stands on: `run_input` for what is read, `lockfile`, `graph_judge` and `cost_vector` for
+//! lock files, `certified` for logs, `best_graph` for the clauses and what they mean, `trial_input`
+//! for the files of trials.
 //! What it must not know: how a problem is solved, who made a log, and what is written.
 #![tactic(auto)]
 

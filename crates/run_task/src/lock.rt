@@ -30,8 +30,8 @@ fn lock_in(alloc: Global, bytes: &[u8]) -> Result<Lock, ReadStop>
 ///
 /// # Errors
 ///
-/// `MissingInput` where there is no such file, `LockTooLarge` from 2^63 bytes on, `BadLock` with the first fault.
-/// `Fault` where the desk failed, with the path.
+/// `MissingInput` where there is no such file, `LockTooLarge` from 2^63 bytes on, `BadLock` with
+/// the first fault. `Fault` where the desk failed, with the path.
 fn read_lock_at<D: Desk>(alloc: Global, desk: &mut D, path: &str) -> Result<Lock, ReadStop>
     ensures read { IfSome (D.files desk.new) (λ files. Gives result (LockAt files path.now)) }
     ensures path { FailsAt path.now result }

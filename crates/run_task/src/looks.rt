@@ -61,7 +61,8 @@ pub(crate) fn read_comparison<D: Desk>(
     }
 }
 
-/// What is said of the lock file at a path, and then the order in which its graph can be built, as a task.
+/// What is said of the lock file at a path, and then the order in which its graph can be built, as
+/// a task.
 pub(crate) fn read_plan<D: Desk>(
     alloc: Global,
     desk: &mut D,

@@ -9,7 +9,8 @@ ghost use Rattle.run_task.specs.Verdicts.{GraphAt, Judges};
 
 use lockfile::lock_laws;
 
-/// Of a lock file one thing is said at most, or one refusal is due at most; and it has one graph at most.
+/// Of a lock file one thing is said at most, or one refusal is due at most; and it has one graph at
+/// most.
 pub fn verdict_laws()
     ensures one { (files : Files) (path : List ℕ) (problem : Problem)
         (a b : Result (List ℕ) Refusal)

@@ -98,8 +98,8 @@ pub(crate) fn take_next<R: Threads + Sync, D: Desk>(
     Ok(Next::More(from + taken as u64))
 }
 
-/// Reads the file at a path to its end, or to where it is decided, and has it checked. Answers whether it is; it is not where
-/// there are more bytes than a certificate may have.
+/// Reads the file at a path to its end, or to where it is decided, and has it checked. Answers
+/// whether it is; it is not where there are more bytes than a certificate may have.
 pub(crate) fn take_all<R: Threads + Sync, D: Desk>(
     rt: &R,
     alloc: Global,

@@ -11,8 +11,9 @@ ghost use Rattle.run_task.specs.Tasks.{Poses};
 use crate::{certificate_laws, verdict_laws};
 use run_input::input_laws;
 
-/// Words name one task at most over files, or are due one refusal at most. What is posed by the verdicts of logs on certificates is
-/// among what any verdicts pose; and what is posed without a certificate is posed by these too.
+/// Words name one task at most over files, or are due one refusal at most. What is posed by the
+/// verdicts of logs on certificates is among what any verdicts pose; and what is posed without a
+/// certificate is posed by these too.
 pub fn task_laws()
     ensures one { (files : Files) (words : List (List ℕ)) (a b : Result Task Refusal)
         → Poses log_verdict files words a

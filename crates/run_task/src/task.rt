@@ -36,16 +36,18 @@ pub enum Task {
     Each(Input),
     /// It is to be said whether there is a graph, and else why there is none.
     Explain(Input),
-    /// It is to be said whether there is a graph, and else a list of demands of which none can be left out, with the graphs that show
-    /// it.
+    /// It is to be said whether there is a graph, and else a list of demands of which none can be
+    /// left out, with the graphs that show it.
     Reasons(Input),
     /// The best graph of a made input is to be found.
     Try(Input),
-    /// The lock file's graph is valid and has this cost vector: it is to be said whether a valid graph costs less.
+    /// The lock file's graph is valid and has this cost vector: it is to be said whether a valid
+    /// graph costs less.
     Compare(Input, [u64; 31]),
     /// The installed packages that meet a condition are to be found.
     Find(Query),
-    /// The graph is that of the lock file, and valid: it is to be said in which order it can be built.
+    /// The graph is that of the lock file, and valid: it is to be said in which order it can be
+    /// built.
     Plan(Graph),
 }
 
@@ -248,8 +250,9 @@ fn read_made<R: Threads + Sync>(
 ///
 /// # Errors
 ///
-/// The first refusal that is due, in the order of work: those of `read_input`, and then those of the command's own
-/// work; of a command that looks for installed packages those of `read_query`. `Fault` where the desk failed.
+/// The first refusal that is due, in the order of work: those of `read_input`, and then those of
+/// the command's own work; of a command that looks for installed packages those of `read_query`.
+/// `Fault` where the desk failed.
 pub fn read_task<R: Threads + Sync, D: Desk>(
     rt: &R,
     alloc: Global,

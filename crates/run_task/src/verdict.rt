@@ -76,8 +76,8 @@ fn judge_lock(alloc: Global, problem: &Problem, lock: &Lock) -> Result<[u64; 31]
 ///
 /// # Errors
 ///
-/// The first refusal that is due: `MissingInput`, `LockTooLarge`, `BadLock`, `OtherRoots`, `BrokenRule`. `Fault` where
-/// the desk failed.
+/// The first refusal that is due: `MissingInput`, `LockTooLarge`, `BadLock`, `OtherRoots`,
+/// `BrokenRule`. `Fault` where the desk failed.
 pub fn read_verdict<D: Desk>(
     alloc: Global,
     desk: &mut D,

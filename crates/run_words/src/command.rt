@@ -39,9 +39,11 @@ pub enum Work {
     Trial { packages: u64, seed: u64 },
 }
 
-/// What the words behind a verb say: `concretize` and `check REPO SETTINGS DATABASE LOCK CERT SPEC`,
-/// `judge`, `fresh` and `plan REPO SETTINGS DATABASE LOCK SPEC`, `refute REPO SETTINGS DATABASE CERT SPEC`,
-/// `explain`, `reasons` and `find REPO SETTINGS DATABASE SPEC`, `each` and `check_each REPO SETTINGS DATABASE DIR SPEC`, `trial N SEED`.
+/// What the words behind a verb say: `concretize` and
+/// `check REPO SETTINGS DATABASE LOCK CERT SPEC`, `judge`, `fresh` and
+/// `plan REPO SETTINGS DATABASE LOCK SPEC`, `refute REPO SETTINGS DATABASE CERT SPEC`, `explain`,
+/// `reasons` and `find REPO SETTINGS DATABASE SPEC`, `each` and
+/// `check_each REPO SETTINGS DATABASE DIR SPEC`, `trial N SEED`.
 #[derive(Debug, Drop)]
 pub struct Command<'a> {
     pub work: Work,

@@ -19,8 +19,9 @@ pub enum FileWord {
     Needed,
 }
 
-/// A verb over files: what its command does, and which files stand among the words behind it, which are
-/// `REPO SETTINGS DATABASE`, LOCK, or DIR in its place, and CERT where they are words of it, and `SPEC..`.
+/// A verb over files: what its command does, and which files stand among the words behind it, which
+/// are `REPO SETTINGS DATABASE`, LOCK, or DIR in its place, and CERT where they are words of it,
+/// and `SPEC..`.
 #[derive(Clone, Copy)]
 pub struct Verb {
     pub work: Work,
@@ -95,7 +96,8 @@ fn words_behind<'a>(file: FileWord, words: &'a [String]) -> &'a [String]
     }
 }
 
-/// The command of a verb over these paths with the words of the spec, of which there is one at least.
+/// The command of a verb over these paths with the words of the spec, of which there is one at
+/// least.
 #[tactic(auto, unfolding(crate::specs::Words::with_spec))]
 fn with_spec<'a>(
     alloc: Global,

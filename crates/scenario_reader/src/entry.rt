@@ -78,7 +78,8 @@ impl Entry {
         self.kind.is(kind) && self.path.as_str() == path
     }
 
-    /// The bytes that the lines stand for: those of each line and a line feed, or those of quoted lines alone.
+    /// The bytes that the lines stand for: those of each line and a line feed, or those of quoted
+    /// lines alone.
     pub(crate) fn content(&self, alloc: Global) -> Result<List<u8>, AllocError>
         ensures { IfOk result (λ bytes. bytes ≡ content_of self.now) }
     {

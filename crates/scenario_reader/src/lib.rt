@@ -1,8 +1,9 @@
-//! Scenarios: one text file says what a run is given, and what it has to answer, to say and to leave.
+//! Scenarios: one text file says what a run is given, and what it has to answer, to say and to
+//! leave.
 //!
 //! What it is: the reader of such files, whose sections stand behind lines `-- NAME --`.
-//! It promises: `read_scenario` gives what the text says, which is a definition over its lines, or the
-//! first fault with its line. It stands on `plain_data` and std.
+//! It promises: `read_scenario` gives what the text says, which is a definition over its lines, or
+//! the first fault with its line. It stands on `plain_data` and std.
 //! It must not know: what runs a scenario, which answers there are, or where its file came from.
 #![tactic(auto)]
 

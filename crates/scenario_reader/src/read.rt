@@ -34,8 +34,8 @@ fn read_sections(alloc: Global, text: &[u8]) -> Result<List<Entry>, ScenarioErro
 ///
 /// # Errors
 ///
-/// The first fault of the lines, in their order, from `Marker` to `UnknownWant`; then that of the words,
-/// of the devices and of the status. `OutOfMemory` where there was no memory.
+/// The first fault of the lines, in their order, from `Marker` to `UnknownWant`; then that of the
+/// words, of the devices and of the status. `OutOfMemory` where there was no memory.
 pub fn read_scenario(alloc: Global, text: &[u8]) -> Result<Scenario, ScenarioError>
     ensures { Answers (meaning_of text.now) result }
 {

@@ -56,8 +56,8 @@ fn is_plain(devices: &[Device]) -> bool {
     pieces_of(devices).is_none() && !devices.iter().any(is_failing)
 }
 
-/// All runs of a scenario. A plain one is run over whole files, and then byte by byte: how a desk hands out
-/// its bytes changes nothing.
+/// All runs of a scenario. A plain one is run over whole files, and then byte by byte: how a desk
+/// hands out its bytes changes nothing.
 fn check_scenario<R: Threads + Sync>(
     rt: &R,
     alloc: Global,

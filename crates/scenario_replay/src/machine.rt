@@ -28,11 +28,12 @@ fn ended(replayed: Replayed) -> ExitCode
     })
 }
 
-/// Replays the scenarios of the files and folders that the words behind the program's name name, and says
-/// on `out` what comes of each.
+/// Replays the scenarios of the files and folders that the words behind the program's name name,
+/// and says on `out` what comes of each.
 ///
-/// It ends with 0 where there was a scenario and nothing differed, with 1 where something differed or was no
-/// scenario, with 2 where a line could not be said or memory ran out, and with 64 where there are no words.
+/// It ends with 0 where there was a scenario and nothing differed, with 1 where something differed
+/// or was no scenario, with 2 where a line could not be said or memory ran out, and with 64 where
+/// there are no words.
 pub fn replay_machine<R: Env + Files + AllocGlobal + Threads + Sync, O: Write + Drop>(
     rt: &R,
     out: O,

@@ -189,8 +189,8 @@ fn replay_all<R: Threads + Sync, D: Desk, O: Sink>(
     Ok(counts.answer())
 }
 
-/// Replays the scenarios of the files and folders that the words name, in their order, and of a folder in
-/// the order of the names' bytes.
+/// Replays the scenarios of the files and folders that the words name, in their order, and of a
+/// folder in the order of the names' bytes.
 #[tactic(auto, using(crate::proofs::Due::fewer))]
 pub fn replay<R: Threads + Sync, D: Desk, O: Sink>(
     rt: &R,

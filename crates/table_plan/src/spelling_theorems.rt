@@ -1,4 +1,5 @@
-//! What holds of all plans and their tables. The bodies are empty: what is proved are the contracts.
+//! What holds of all plans and their tables. The bodies are empty: what is proved are the
+//! contracts.
 ghost use Rattle.std.specs.Prelude.{ℕ, ◌+◌, Bool};
 ghost use Rattle.graph_core.specs.Graphs.{Content};
 ghost use Rattle.literal_table.specs.Tables.{IsTable};

@@ -1,4 +1,5 @@
-//! A package's definitions of variants with the formulas of their conditions, found by the variants.
+//! A package's definitions of variants with the formulas of their conditions, found by the
+//! variants.
 ghost use Rattle.std.specs.Prelude.{◌≡◌, map, IfOk};
 ghost use Rattle.clause_formulas.specs.Drafts.{statement_of};
 ghost use Rattle.keyed_lists.specs.Lent.{IsIndexOf};

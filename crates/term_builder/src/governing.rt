@@ -72,8 +72,8 @@ fn push_blocks(
     push_blocks(alloc, blocks, front, times - 1, size / 2)
 }
 
-// None of the formulas is true. Lists with one end have blocks in common, whose gates are made once:
-// so n lists, each without the first of the one before, take some n log n literals.
+// None of the formulas is true. Lists with one end have blocks in common, whose gates are made
+// once: so n lists, each without the first of the one before, take some n log n literals.
 fn none_among(alloc: Global, parts: Vec<Formula>) -> Result<Formula, AllocError>
     ensures { IfOk result (λ formula. formula ≡ none_among parts.items) }
 {

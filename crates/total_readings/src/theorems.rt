@@ -22,8 +22,8 @@ ghost use Rattle.site_settings.specs.declared.settings.Settings.{Settings};
 
 use spec_grammar::reading_is_total;
 
-/// Any bytes are a file of settings, or no JSON text, or the JSON text of a value with a first fault; by
-/// `settings_reader::settings_laws` they are one of these, and one alone.
+/// Any bytes are a file of settings, or no JSON text, or the JSON text of a value with a first
+/// fault; by `settings_reader::settings_laws` they are one of these, and one alone.
 pub fn settings_total()
     ensures total { (bytes : List ℕ) → ((settings : Settings) × IsOfFile bytes settings)
         ⊎ IsNoJson bytes
@@ -39,15 +39,15 @@ pub fn database_total()
         ⊎ ((fault : DbFault) × IsTextFault bytes fault × (fault ≢ DbFault.OutOfMemory)) }
 {}
 
-/// Any bytes are a lock file, or have a fault other than want of memory; by `lockfile::lock_laws` they are
-/// one of the two, and one alone.
+/// Any bytes are a lock file, or have a fault other than want of memory; by `lockfile::lock_laws`
+/// they are one of the two, and one alone.
 pub fn lock_total()
     ensures total { (bytes : List ℕ) → ((lock : Lock) × IsLock bytes lock)
         ⊎ ((fault : LockFault) × IsLockFault bytes fault × (fault ≢ LockFault.OutOfMemory)) }
 {}
 
-/// Words that are a command pose a task over any files, or are due a refusal; by `run_task::task_laws` they
-/// pose one of these, and one alone.
+/// Words that are a command pose a task over any files, or are due a refusal; by
+/// `run_task::task_laws` they pose one of these, and one alone.
 pub fn posed_total()
     ensures total { (files : Files) (words : List (List ℕ)) (command : Command)
         → command_of words ≡ Some command

@@ -54,10 +54,12 @@ fn add_recipes(
     Ok(())
 }
 
-/// A repository `repo` of so many packages, `p0` to `p(N - 1)`, each of which depends on later ones alone.
+/// A repository `repo` of so many packages, `p0` to `p(N - 1)`, each of which depends on later ones
+/// alone.
 ///
-/// The seed gives the same files everywhere. `repo/packages/pI/package.py` declares one to four versions from 1.0 on and a
-/// variant, one to three dependencies on later packages, and at times a conflict with version 1.0.
+/// The seed gives the same files everywhere. `repo/packages/pI/package.py` declares one to four
+/// versions from 1.0 on and a variant, one to three dependencies on later packages, and at times a
+/// conflict with version 1.0.
 #[tactic(auto, unfolding(crate::specs::Inputs::input_files))]
 pub fn make(alloc: Global, packages: u64, seed: u64) -> Result<SteadyDesk, AllocError>
     ensures { IfOk result (λ desk. desk ≡ input_files packages seed) }

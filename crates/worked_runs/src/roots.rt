@@ -63,7 +63,8 @@ fn is_there(mask: &AtomicU64) -> bool {
     false
 }
 
-/// The first half was at just the place 0, the second at just the place 1, and each found the other.
+/// The first half was at just the place 0, the second at just the place 1, and each found the
+/// other.
 fn check_met(rt: &impl Abort, gate: &Masks) {
     assert_eq!(rt; gate.first.load(Ordering::SeqCst), 1, "the first half");
     assert_eq!(rt; gate.second.load(Ordering::SeqCst), 2, "the second half");
