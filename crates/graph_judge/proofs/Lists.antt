@@ -3,18 +3,17 @@ use Rattle.std.proofs.Common.{◌≡◌, refl, sym, ap, ◌∙◌, Bool, true, f
 use Rattle.std.specs.List.{filter, flat_map, filter_map, list_any}
 use Rattle.std.specs.Option.{unwrap_or}
 use Rattle.spec_grammar.specs.declared.part.Spec.{Spec}
-use Rattle.recipe_data.specs.declared.recipe.RequireRow.{RequireRow}
 use Rattle.graph_core.specs.Graphs.{Text, Content}
 use Rattle.graph_core.specs.declared.node.Node.{Node}
-use Rattle.problem.specs.Nodes.{is_built}
-use Rattle.condition_rules.specs.Words.{implies, is_some_and}
-use Rattle.graph_rules.specs.Verdict.{Place, Asked, keeps_asked_row, keeps_asked_setting, breaks_of, broken_roots, broken_or, first_broken, lesser_of, least}
+use Rattle.condition_rules.specs.Words.{is_some_and}
+use Rattle.graph_rules.specs.Verdict.{Place, Asked, breaks_of, broken_roots, broken_or, first_broken, lesser_of, least}
 use Rattle.graph_rules.specs.declared.rule.Rule.{Rule}
 use Rattle.graph_rules.specs.declared.rule.Verdict.{Verdict}
 use Rattle.graph_rules.specs.declared.rule.Verdict.TheVariants as verdicts
 use Rattle.problem.specs.Problems.{Problem}
 use Rattle.graph_rules.proofs.LeastLaws.{lesser_of-assoc}
-use Rattle.graph_judge.specs.Places.{unless, keeps_row, rows_places, settings_places, found_of}
+use Rattle.graph_judge.specs.Places.{unless, found_of}
+use Rattle.graph_judge.specs.Rows.{rows_places}
 
 -- the places of those that fail the test, one after another
 pub flat_unless : {X : Type 0} (test : X → Bool) (at : X → Place) (xs : List X)
@@ -35,22 +34,12 @@ flat_map-same f g same [] = refl
 flat_map-same f g same (x ∷ xs) = rw (same x, flat_map-same f g same xs) refl
 
 -- the places of the rows that fail their test, node after node
-pub rows_flat : {R : Type 0} (made : Asked) (rows_at : Text → List R) (number : R → ℕ) (test : Node → R → Bool) (nodes : List Node)
-    → rows_places made rows_at number test nodes
+pub rows_flat : {R : Type 0} (rows_at : Text → List R) (number : R → ℕ) (test : Node → R → Bool) (nodes : List Node)
+    → rows_places rows_at number test nodes
     ≡ flat_map (λ node. map (λ row. let p : Place = (node.name, number row) in
-    p) (filter (λ row. not (implies (is_built node) (keeps_asked_row made number test node row))) (rows_at node.name))) nodes
-rows_flat made rows_at number test nodes =
-    flat_map-same _ _ (λ node. flat_unless (keeps_row made number test node) (λ row. let p : Place = (node.name, number row) in
-    p) (rows_at node.name)) nodes
-
--- and of those that the settings ask
-pub settings_flat : (made : Asked) (rows_at : Text → List RequireRow) (test : Node → RequireRow → Bool) (nodes : List Node)
-    → settings_places made rows_at test nodes
-    ≡ flat_map (λ node. map (λ row. let p : Place = (node.name, row.number) in
-    p) (filter (λ row. not (keeps_asked_setting made test node row)) (rows_at node.name))) nodes
-settings_flat made rows_at test nodes =
-    flat_map-same _ _ (λ node. flat_unless (keeps_asked_setting made test node) (λ (row : RequireRow). let p : Place =
-    (node.name, row.number) in
+    p) (filter (λ row. not (test node row)) (rows_at node.name))) nodes
+rows_flat rows_at number test nodes =
+    flat_map-same _ _ (λ node. flat_unless (test node) (λ row. let p : Place = (node.name, number row) in
     p) (rows_at node.name)) nodes
 
 -- what is left of a list, one element further on

@@ -1,20 +1,19 @@
 -- The places where a rule is broken, one element after another.
 use Rattle.std.specs.Prelude.{Bool, true, false, ℕ, List, [], ◌∷◌, flat_map, Option, Some, None}
-use Rattle.recipe_data.specs.declared.recipe.DependRow.{DependRow}
-use Rattle.recipe_data.specs.declared.recipe.RequireRow.{RequireRow}
+use Rattle.spec_grammar.specs.declared.part.Spec.{Spec}
 use Rattle.graph_core.specs.Graphs.{Text, Content}
 use Rattle.graph_core.specs.declared.node.Node.{Node}
 use Rattle.condition_rules.specs.Words.{implies}
 use Rattle.problem.specs.Nodes.{is_built}
 use Rattle.problem.specs.Problems.{Problem}
 use Rattle.graph_rules.specs.Built.{keeps_buildable, keeps_version, keeps_variant, keeps_compiler, keeps_machine, keeps_extra_edge}
-use Rattle.graph_rules.specs.Directives.{keeps_edge, keeps_constraint}
 use Rattle.graph_rules.specs.Kept.{keeps_kept}
 use Rattle.graph_rules.specs.Whole.{keeps_provider, keeps_used, keeps_together, keeps_no_cycle, keeps_reachable}
-use Rattle.graph_rules.specs.Verdict.{Place, Asked, keeps_asked_row, keeps_asked_setting}
+use Rattle.graph_rules.specs.Verdict.{Place, breaks_of, keeps_asked_root}
 use Rattle.graph_rules.specs.declared.rule.Rule.{Rule}
 use Rattle.graph_rules.specs.declared.rule.Verdict.{Verdict}
 use Rattle.graph_rules.specs.declared.rule.Verdict.TheVariants as verdicts
+use Rattle.graph_judge.specs.Judging.{Judging, asked}
 use Rattle.graph_judge.specs.declared.nodes.NodeRule.{NodeRule}
 use Rattle.graph_judge.specs.declared.nodes.NodeRule.TheVariants as rules
 use Rattle.graph_judge.specs.declared.others.ProviderRule.{ProviderRule}
@@ -41,30 +40,6 @@ keeps_at rules.Unreachable problem graph node = keeps_reachable problem graph no
 abbrev pub nodes_places : (Node → Bool) → List Node → List Place
 nodes_places test nodes = flat_map (λ node. unless (test node) (node.name, 0)) nodes
 
--- ---- directives
-
--- a `depends_on` is kept in what it asks of the child, or in its edge
-abbrev pub depend_test : Bool → Problem → Content → Node → DependRow → Bool
-depend_test true problem graph node row = keeps_constraint problem graph node row
-depend_test false problem graph node row = keeps_edge problem graph node row
-
-abbrev pub keeps_row : {R : Type 0} → Asked → (R → ℕ) → (Node → R → Bool) → Node → R → Bool
-keeps_row asked number test node row = implies (is_built node) (keeps_asked_row asked number test node row)
-
-abbrev pub row_places : {R : Type 0} → Asked → (R → ℕ) → (Node → R → Bool) → Node → List R → List Place
-row_places asked number test node rows = flat_map (λ row. unless (keeps_row asked number test node row) (node.name, number row)) rows
-
-abbrev pub rows_places : {R : Type 0} → Asked → (Text → List R) → (R → ℕ) → (Node → R → Bool) → List Node → List Place
-rows_places asked rows_at number test nodes = flat_map (λ node. row_places asked number test node (rows_at node.name)) nodes
-
--- ---- requirements of the settings
-
-abbrev pub setting_places : Asked → (Node → RequireRow → Bool) → Node → List RequireRow → List Place
-setting_places asked test node rows = flat_map (λ row. unless (keeps_asked_setting asked test node row) (node.name, row.number)) rows
-
-abbrev pub settings_places : Asked → (Text → List RequireRow) → (Node → RequireRow → Bool) → List Node → List Place
-settings_places asked rows_at test nodes = flat_map (λ node. setting_places asked test node (rows_at node.name)) nodes
-
 -- ---- providers
 
 abbrev pub provider_test : ProviderRule → Problem → Content → (Text × Text) → Bool
@@ -75,7 +50,16 @@ provider_test of_provider.Together problem graph p = keeps_together problem grap
 abbrev pub providers_places : ((Text × Text) → Bool) → List (Text × Text) → List Place
 providers_places test providers = flat_map (λ p. unless (test p) (p.0, 0)) providers
 
+-- ---- roots
+
+abbrev pub keeps_root_at : Judging → ℕ → Spec → Bool
+keeps_root_at j = keeps_asked_root (asked j) j.problem j.graph
+
 -- ---- the verdict
+
+-- the places where the rule is broken
+abbrev pub breaks : Rule → Judging → List Place
+breaks rule j = breaks_of (asked j) rule j.problem j.graph
 
 -- the verdict that the rule is broken at this place, if there is one
 abbrev pub found_of : Rule → Option Place → Option Verdict

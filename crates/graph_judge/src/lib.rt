@@ -11,12 +11,12 @@
 #![tactic(auto)]
 
 mod asked;
+mod judging;
 mod names;
 mod nodes;
 mod others;
 mod places;
 mod rows;
-mod settings;
 mod verdict;
 
 pub use names::name_virtuals;

@@ -6,12 +6,12 @@ ghost use Rattle.problem.specs.OfVirtuals.Virtuals.{is_virtual};
 ghost use Rattle.graph_rules.specs.Named.{answered_virtuals, is_on_virtual, named_graph, named_edge, named_from};
 ghost use Rattle.graph_judge.specs.Answered.{answered};
 
+use crate::judging::Judge;
 use condition_rules::Paths;
 use graph_core::{Edge, Graph, Node, ValueSet};
 use plain_data::{Duplicate, Word};
 use problem::{Explored, Problem, depends_at, is_built};
 use recipe_data::DependRow;
-use rule_checks::asks;
 use std::alloc::{AllocError, Global};
 
 /// The graph, where each edge of a node to build names just the virtuals whose provider is the
@@ -24,9 +24,8 @@ use std::alloc::{AllocError, Global};
 pub fn name_virtuals(alloc: Global, problem: &Problem, graph: &Graph) -> Result<Graph, AllocError>
     ensures { IfOk result (λ made. made ≡ named_graph problem.now graph.now) }
 {
-    let explored = Explored::new(alloc, graph)?;
     let nodes = copied_nodes(alloc, graph.nodes())?;
-    let edges = named_edges(alloc, problem, &explored, graph.edges())?;
+    let edges = all_named(alloc, problem, graph)?;
     let providers = copied_providers(alloc, graph.providers())?;
     Ok(Graph::from_parts(nodes, edges, providers))
 }
@@ -54,112 +53,101 @@ fn copied_providers(
     Ok(copies)
 }
 
-fn named_edges(
+fn all_named<'a>(
     alloc: Global,
-    problem: &Problem,
-    graph: &Explored,
-    edges: &[Edge],
+    problem: &'a Problem,
+    graph: &'a Graph,
 ) -> Result<Vec<Edge>, AllocError>
     ensures { IfOk result (λ made. made.items
-        ≡ map (named_edge problem.now graph.now) edges.now) }
+        ≡ map (named_edge problem.now graph.now) graph.now.edges) }
 {
-    let mut made = Vec::new(alloc);
-    for edge in edges {
-        made.push(named_edge(alloc, problem, graph, edge)?)?;
-    }
-    Ok(made)
+    let explored = Explored::new(alloc, graph)?;
+    let judge = Judge::new(alloc, problem, &explored, None);
+    judge.named_edges(graph.edges())
 }
 
-fn named_edge(
-    alloc: Global,
-    problem: &Problem,
-    graph: &Explored,
-    edge: &Edge,
-) -> Result<Edge, AllocError>
-    ensures { IfOk result (λ made. made ≡ named_edge problem.now graph.now edge.now) }
-{
-    let virtuals = named_from(alloc, problem, graph, edge)?;
-    Ok(Edge {
-        parent: edge.parent.duplicate(alloc)?,
-        child: edge.child.duplicate(alloc)?,
-        kinds: edge.kinds,
-        virtuals,
-    })
-}
-
-/// The virtuals of an edge: of one from a node to build those that the child answers, of another
-/// its own.
-fn named_from(
-    alloc: Global,
-    problem: &Problem,
-    graph: &Explored,
-    edge: &Edge,
-) -> Result<ValueSet, AllocError>
-    ensures { IfOk result (λ set. set ≡ named_from problem.now graph.now edge.now
-        (node_of graph.now edge.now.parent)) }
-{
-    match graph.graph().node(edge.parent.as_str()) {
-        Some(node) if is_built(node) => {
-            answered_virtuals(alloc, problem, graph, node, edge.child.as_str())
+impl<'a> Judge<'a> {
+    fn named_edges(&self, edges: &[Edge]) -> Result<Vec<Edge>, AllocError>
+        ensures { IfOk result (λ made. made.items
+            ≡ map (named_edge self.now.problem self.now.graph) edges.now) }
+    {
+        let mut made = Vec::new(self.alloc());
+        for edge in edges {
+            made.push(self.named_edge(edge)?)?;
         }
-        _ => edge.virtuals.duplicate(alloc),
+        Ok(made)
     }
-}
 
-fn answered_virtuals(
-    alloc: Global,
-    problem: &Problem,
-    graph: &Explored,
-    node: &Node,
-    child: &str,
-) -> Result<ValueSet, AllocError>
-    ensures { IfOk result (λ set. set ≡ answered_virtuals problem.now graph.now node.now
-        child.now) }
-{
-    let rows = depends_at(problem, node.name.as_str());
-    let names = answered_names(alloc, problem, graph, node, child, rows)?;
-    Ok(ValueSet::from_words(names))
-}
+    fn named_edge(&self, edge: &Edge) -> Result<Edge, AllocError>
+        ensures { IfOk result (λ made. made
+            ≡ named_edge self.now.problem self.now.graph edge.now) }
+    {
+        let virtuals = self.named_from(edge)?;
+        Ok(Edge {
+            parent: edge.parent.duplicate(self.alloc())?,
+            child: edge.child.duplicate(self.alloc())?,
+            kinds: edge.kinds,
+            virtuals,
+        })
+    }
 
-/// Adds the virtual of a row that holds and asks for the child, if it is on one.
-fn add_answered(
-    alloc: Global,
-    problem: &Problem,
-    graph: &Explored,
-    node: &Node,
-    child: &str,
-    names: &mut Vec<Word>,
-    row: &DependRow,
-) -> Result<(), AllocError>
-    ensures { OnOk result (names.new.items ≡ names.old.items
-        ++ answered problem.now graph.now node.now child.now row.now) }
-{
-    if !is_on_virtual(problem, row) {
-        return Ok(());
+    /// The virtuals of an edge: of one from a node to build those that the child answers, of
+    /// another its own.
+    fn named_from(&self, edge: &Edge) -> Result<ValueSet, AllocError>
+        ensures { IfOk result (λ set. set ≡ named_from self.now.problem self.now.graph edge.now
+            (node_of self.now.graph edge.now.parent)) }
+    {
+        match self.checks.graph().graph().node(edge.parent.as_str()) {
+            Some(node) if is_built(node) => self.answered_virtuals(node, edge.child.as_str()),
+            _ => edge.virtuals.duplicate(self.alloc()),
+        }
     }
-    if !asks(alloc, problem, graph, node, child, row)? {
-        return Ok(());
-    }
-    push_name(alloc, names, row)
-}
 
-/// The virtuals of the rows that hold and ask for the child.
-fn answered_names(
-    alloc: Global,
-    problem: &Problem,
-    graph: &Explored,
-    node: &Node,
-    child: &str,
-    rows: &[DependRow],
-) -> Result<Vec<Word>, AllocError>
-    ensures { IfOk result (λ names. names.items
-        ≡ flat_map (answered problem.now graph.now node.now child.now) rows.now) }
-{
-    let mut names = Vec::new(alloc);
-    for row in rows {
-        add_answered(alloc, problem, graph, node, child, &mut names, row)?;
+    fn answered_virtuals(&self, node: &Node, child: &str) -> Result<ValueSet, AllocError>
+        ensures { IfOk result (λ set. set ≡ answered_virtuals self.now.problem self.now.graph
+            node.now child.now) }
+    {
+        let rows = depends_at(self.problem(), node.name.as_str());
+        let names = self.answered_names(node, child, rows)?;
+        Ok(ValueSet::from_words(names))
     }
-    Ok(names)
+
+    /// The virtuals of the rows that hold and ask for the child.
+    fn answered_names(
+        &self,
+        node: &Node,
+        child: &str,
+        rows: &[DependRow],
+    ) -> Result<Vec<Word>, AllocError>
+        ensures { IfOk result (λ names. names.items ≡ flat_map (answered self.now.problem
+            self.now.graph node.now child.now) rows.now) }
+    {
+        let mut names = Vec::new(self.alloc());
+        for row in rows {
+            self.add_answered(node, child, &mut names, row)?;
+        }
+        Ok(names)
+    }
+
+    /// Adds the virtual of a row that holds and asks for the child, if it is on one.
+    fn add_answered(
+        &self,
+        node: &Node,
+        child: &str,
+        names: &mut Vec<Word>,
+        row: &DependRow,
+    ) -> Result<(), AllocError>
+        ensures { OnOk result (names.new.items ≡ names.old.items
+            ++ answered self.now.problem self.now.graph node.now child.now row.now) }
+    {
+        if !is_on_virtual(self.problem(), row) {
+            return Ok(());
+        }
+        if !self.checks.asks(node, child, row)? {
+            return Ok(());
+        }
+        push_name(self.alloc(), names, row)
+    }
 }
 
 fn is_on_virtual(problem: &Problem, row: &DependRow) -> bool

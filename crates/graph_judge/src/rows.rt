@@ -1,275 +1,206 @@
-//! The rules that are said of each directive at a node to build.
+//! The rules that are said of each directive at a node to build, and of each requirement of the
+//! settings at a node.
 ghost use Rattle.std.specs.Prelude.{◌≡◌, ◌++◌, IfOk, OnOk};
-ghost use Rattle.problem.specs.Problems.{depends_at, conflicts_at, requirements_at};
-ghost use Rattle.graph_rules.specs.Directives.{keeps_conflict, keeps_requirement};
-ghost use Rattle.graph_rules.specs.Verdict.{keeps_asked_row, broken_rows};
-ghost use Rattle.graph_judge.specs.Places.{depend_test, keeps_row, row_places, rows_places};
+ghost use Rattle.problem.specs.Problems.{depends_at, conflicts_at};
+ghost use Rattle.graph_rules.specs.Directives.{keeps_conflict};
+ghost use Rattle.graph_judge.specs.Rows.{broken_at, row_places, rows_places};
+ghost use Rattle.graph_judge.specs.Rows.{keeps_directive, keeps_depend, keeps_require, requires_at, asks_require};
 
-use crate::asked::AskedDemands;
+use crate::judging::Judge;
 use crate::places::add_unless;
-use condition_rules::Paths;
 use graph_core::Node;
 use plain_data::Word;
-use problem::{Explored, Problem, conflicts_at, depends_at, is_built, requirements_at};
+use problem::{Problem, conflicts_at, depends_at, required_at, requirements_at};
 use recipe_data::{ConflictRow, DependRow, RequireRow};
-use rule_checks::{keeps_conflict, keeps_constraint, keeps_edge, keeps_requirement};
-use std::alloc::{AllocError, Global};
+use std::alloc::AllocError;
 
-// ---- `depends_on`, with the rules Edge and Constraint
+/// A rule that is said of each row of a list at a node.
+pub(crate) trait RowRule {
+    ghost use Rattle.std.specs.Prelude.{◌≡◌, Bool, ℕ, List, IfOk};
+    ghost use Rattle.graph_core.specs.Graphs.{Text};
+    ghost use Rattle.graph_core.specs.declared.node.Node.{Node};
+    ghost use Rattle.problem.specs.Problems.{Problem};
+    ghost use Rattle.graph_judge.specs.Judging.{Judging};
 
-fn depend_test(
-    alloc: Global,
-    constraint: bool,
-    problem: &Problem,
-    graph: &Explored,
-    node: &Node,
-    row: &DependRow,
-) -> Result<bool, AllocError>
-    ensures { IfOk result (λ kept. kept ≡ depend_test constraint problem.now graph.now
-        node.now row.now) }
-{
-    if constraint {
-        keeps_constraint(alloc, problem, graph, node, row)
-    } else {
-        keeps_edge(alloc, problem, graph, node, row)
+    type Row;
+
+    ghost rows: { Self → Problem → Text → List Self.Row };
+
+    ghost number: { Self → Self.Row → ℕ };
+
+    ghost keeps: { Self → Judging → Node → Self.Row → Bool };
+
+    /// The rows of a package.
+    fn rows<'p>(&self, problem: &'p Problem, name: &str) -> &'p [Self::Row]
+        ensures { result.now ≡ rows self.now problem.now name.now };
+
+    fn number(&self, row: &Self::Row) -> u64
+        ensures { result ≡ number self.now row.now };
+
+    /// Whether a row is kept at a node, or not asked there.
+    fn keeps(&self, judge: &Judge, node: &Node, row: &Self::Row) -> Result<bool, AllocError>
+        ensures { IfOk result (λ kept. kept ≡ keeps self.now judge.now node.now row.now) };
+}
+
+/// What a `depends_on` asks: its edge, or what holds at the child.
+#[derive(Debug, Clone, Copy, PartialEq, Eq)]
+pub(crate) enum DependRule {
+    Edge,
+    Constraint,
+}
+
+impl RowRule for DependRule {
+    type Row = DependRow;
+
+    ghost rows = { λ rule. depends_at };
+
+    ghost number = { λ rule row. row.number };
+
+    ghost keeps = { λ rule. keeps_directive (λ row. row.number) (keeps_depend rule) };
+
+    fn rows<'p>(&self, problem: &'p Problem, name: &str) -> &'p [DependRow] {
+        depends_at(problem, name)
+    }
+
+    fn number(&self, row: &DependRow) -> u64 {
+        row.number
+    }
+
+    fn keeps(&self, judge: &Judge, node: &Node, row: &DependRow) -> Result<bool, AllocError> {
+        if !judge.asks_directive(node, row.number) {
+            return Ok(true);
+        }
+        match self {
+            DependRule::Edge => judge.checks.keeps_edge(node, row),
+            DependRule::Constraint => judge.checks.keeps_constraint(node, row),
+        }
     }
 }
 
-/// Whether a `depends_on` is kept at a node, where it is built and the directive is asked.
-fn keeps_depend<D: AskedDemands>(
-    alloc: Global,
-    constraint: bool,
-    problem: &Problem,
-    graph: &Explored,
-    asked: &D,
-    node: &Node,
-    row: &DependRow,
-) -> Result<bool, AllocError>
-    ensures { IfOk result (λ kept. kept ≡ keeps_row (D.asks asked.now) (λ row. row.number)
-        (depend_test constraint problem.now graph.now) node.now row.now) }
-{
-    if !is_built(node) {
-        return Ok(true);
+/// What a `conflicts` asks.
+#[derive(Drop)]
+pub(crate) struct ConflictRule {}
+
+impl RowRule for ConflictRule {
+    type Row = ConflictRow;
+
+    ghost rows = { λ rule. conflicts_at };
+
+    ghost number = { λ rule row. row.number };
+
+    ghost keeps = { λ rule. keeps_directive (λ row. row.number) keeps_conflict };
+
+    fn rows<'p>(&self, problem: &'p Problem, name: &str) -> &'p [ConflictRow] {
+        conflicts_at(problem, name)
     }
-    if !asked.asks_directive(node.name.as_str(), row.number) {
-        return Ok(true);
+
+    fn number(&self, row: &ConflictRow) -> u64 {
+        row.number
     }
-    depend_test(alloc, constraint, problem, graph, node, row)
+
+    fn keeps(&self, judge: &Judge, node: &Node, row: &ConflictRow) -> Result<bool, AllocError> {
+        if !judge.asks_directive(node, row.number) {
+            return Ok(true);
+        }
+        judge.checks.keeps_conflict(node, row)
+    }
 }
 
-fn add_depends<D: AskedDemands>(
-    alloc: Global,
-    places: &mut Vec<(Word, u64)>,
-    constraint: bool,
-    problem: &Problem,
-    graph: &Explored,
-    asked: &D,
-    node: &Node,
-    rows: &[DependRow],
-) -> Result<(), AllocError>
-    ensures { OnOk result (places.new.items ≡ places.old.items
-        ++ row_places (D.asks asked.now) (λ row. row.number)
-        (depend_test constraint problem.now graph.now) node.now rows.now) }
-{
-    for row in rows {
-        let kept = keeps_depend(alloc, constraint, problem, graph, asked, node, row)?;
-        add_unless(alloc, places, kept, node.name.as_str(), row.number)?;
-    }
-    Ok(())
+/// What is required: by a recipe of a node to build, or by the settings of a node of any origin.
+#[derive(Debug, Clone, Copy, PartialEq, Eq)]
+pub(crate) enum RequireRule {
+    Recipe,
+    Settings,
 }
 
-fn add_all_depends<D: AskedDemands>(
-    alloc: Global,
-    places: &mut Vec<(Word, u64)>,
-    constraint: bool,
-    problem: &Problem,
-    graph: &Explored,
-    asked: &D,
-    nodes: &[Node],
-) -> Result<(), AllocError>
-    ensures { OnOk result (places.new.items ≡ places.old.items
-        ++ rows_places (D.asks asked.now) (depends_at problem.now) (λ row. row.number)
-        (depend_test constraint problem.now graph.now) nodes.now) }
-{
-    for node in nodes {
-        let rows = depends_at(problem, node.name.as_str());
-        add_depends(alloc, places, constraint, problem, graph, asked, node, rows)?;
+impl RequireRule {
+    fn is_asked(&self, judge: &Judge, node: &Node, number: u64) -> bool
+        ensures { result ≡ asks_require self.now judge.now node.now number }
+    {
+        match self {
+            RequireRule::Recipe => judge.asks_directive(node, number),
+            RequireRule::Settings => judge.asks_setting(node, number),
+        }
     }
-    Ok(())
 }
 
-/// Where a `depends_on` is broken: by its constraint, or by its edge.
-pub(crate) fn depend_places<D: AskedDemands>(
-    alloc: Global,
-    constraint: bool,
-    problem: &Problem,
-    graph: &Explored,
-    asked: &D,
-) -> Result<Vec<(Word, u64)>, AllocError>
-    ensures { IfOk result (λ places. places.items ≡ broken_rows (depends_at problem.now)
-        (λ row. row.number) (keeps_asked_row (D.asks asked.now) (λ row. row.number)
-        (depend_test constraint problem.now graph.now)) graph.now) }
-{
-    let mut places = Vec::new(alloc);
-    let nodes = graph.graph().nodes();
-    add_all_depends(alloc, &mut places, constraint, problem, graph, asked, nodes)?;
-    Ok(places)
+impl RowRule for RequireRule {
+    type Row = RequireRow;
+
+    ghost rows = { requires_at };
+
+    ghost number = { λ rule row. row.number };
+
+    ghost keeps = { keeps_require };
+
+    fn rows<'p>(&self, problem: &'p Problem, name: &str) -> &'p [RequireRow] {
+        match self {
+            RequireRule::Recipe => requirements_at(problem, name),
+            RequireRule::Settings => required_at(problem, name),
+        }
+    }
+
+    fn number(&self, row: &RequireRow) -> u64 {
+        row.number
+    }
+
+    fn keeps(&self, judge: &Judge, node: &Node, row: &RequireRow) -> Result<bool, AllocError> {
+        if !self.is_asked(judge, node, row.number) {
+            return Ok(true);
+        }
+        judge.checks.keeps_requirement(node, row)
+    }
 }
 
-// ---- `conflicts`
-
-/// The same of a `conflicts`.
-fn keeps_conflict_asked<D: AskedDemands>(
-    alloc: Global,
-    problem: &Problem,
-    graph: &Explored,
-    asked: &D,
-    node: &Node,
-    row: &ConflictRow,
-) -> Result<bool, AllocError>
-    ensures { IfOk result (λ kept. kept ≡ keeps_row (D.asks asked.now) (λ row. row.number)
-        (keeps_conflict problem.now graph.now) node.now row.now) }
-{
-    if !is_built(node) {
-        return Ok(true);
+impl<'a> Judge<'a> {
+    fn add_rows<R: RowRule>(
+        &self,
+        places: &mut Vec<(Word, u64)>,
+        rule: &R,
+        node: &Node,
+        rows: &[R::Row],
+    ) -> Result<(), AllocError>
+        ensures { OnOk result (places.new.items ≡ places.old.items
+            ++ row_places (R.number rule.now) (R.keeps rule.now self.now) node.now rows.now) }
+    {
+        for row in rows {
+            let kept = rule.keeps(self, node, row)?;
+            add_unless(
+                self.alloc(),
+                places,
+                kept,
+                node.name.as_str(),
+                rule.number(row),
+            )?;
+        }
+        Ok(())
     }
-    if !asked.asks_directive(node.name.as_str(), row.number) {
-        return Ok(true);
+
+    fn add_all_rows<R: RowRule>(
+        &self,
+        places: &mut Vec<(Word, u64)>,
+        rule: &R,
+        nodes: &[Node],
+    ) -> Result<(), AllocError>
+        ensures { OnOk result (places.new.items ≡ places.old.items
+            ++ rows_places (R.rows rule.now self.now.problem) (R.number rule.now)
+            (R.keeps rule.now self.now) nodes.now) }
+    {
+        for node in nodes {
+            let rows = rule.rows(self.problem(), node.name.as_str());
+            self.add_rows(places, rule, node, rows)?;
+        }
+        Ok(())
     }
-    keeps_conflict(alloc, problem, graph, node, row)
-}
 
-fn add_conflicts<D: AskedDemands>(
-    alloc: Global,
-    places: &mut Vec<(Word, u64)>,
-    problem: &Problem,
-    graph: &Explored,
-    asked: &D,
-    node: &Node,
-    rows: &[ConflictRow],
-) -> Result<(), AllocError>
-    ensures { OnOk result (places.new.items ≡ places.old.items
-        ++ row_places (D.asks asked.now) (λ row. row.number)
-        (keeps_conflict problem.now graph.now) node.now rows.now) }
-{
-    for row in rows {
-        let kept = keeps_conflict_asked(alloc, problem, graph, asked, node, row)?;
-        add_unless(alloc, places, kept, node.name.as_str(), row.number)?;
+    /// The nodes and rows where such a rule is broken.
+    pub(crate) fn row_places<R: RowRule>(&self, rule: &R) -> Result<Vec<(Word, u64)>, AllocError>
+        ensures { IfOk result (λ places. places.items
+            ≡ broken_at (R.rows rule.now self.now.problem) (R.number rule.now)
+            (R.keeps rule.now self.now) self.now.graph) }
+    {
+        let mut places = Vec::new(self.alloc());
+        self.add_all_rows(&mut places, rule, self.nodes())?;
+        Ok(places)
     }
-    Ok(())
-}
-
-fn add_all_conflicts<D: AskedDemands>(
-    alloc: Global,
-    places: &mut Vec<(Word, u64)>,
-    problem: &Problem,
-    graph: &Explored,
-    asked: &D,
-    nodes: &[Node],
-) -> Result<(), AllocError>
-    ensures { OnOk result (places.new.items ≡ places.old.items
-        ++ rows_places (D.asks asked.now) (conflicts_at problem.now) (λ row. row.number)
-        (keeps_conflict problem.now graph.now) nodes.now) }
-{
-    for node in nodes {
-        let rows = conflicts_at(problem, node.name.as_str());
-        add_conflicts(alloc, places, problem, graph, asked, node, rows)?;
-    }
-    Ok(())
-}
-
-/// Where a `conflicts` is broken.
-pub(crate) fn conflict_places<D: AskedDemands>(
-    alloc: Global,
-    problem: &Problem,
-    graph: &Explored,
-    asked: &D,
-) -> Result<Vec<(Word, u64)>, AllocError>
-    ensures { IfOk result (λ places. places.items ≡ broken_rows (conflicts_at problem.now)
-        (λ row. row.number) (keeps_asked_row (D.asks asked.now) (λ row. row.number)
-        (keeps_conflict problem.now graph.now)) graph.now) }
-{
-    let mut places = Vec::new(alloc);
-    let nodes = graph.graph().nodes();
-    add_all_conflicts(alloc, &mut places, problem, graph, asked, nodes)?;
-    Ok(places)
-}
-
-// ---- `requires`
-
-/// The same of a `requires`.
-fn keeps_requirement_asked<D: AskedDemands>(
-    alloc: Global,
-    problem: &Problem,
-    graph: &Explored,
-    asked: &D,
-    node: &Node,
-    row: &RequireRow,
-) -> Result<bool, AllocError>
-    ensures { IfOk result (λ kept. kept ≡ keeps_row (D.asks asked.now) (λ row. row.number)
-        (keeps_requirement problem.now graph.now) node.now row.now) }
-{
-    if !is_built(node) {
-        return Ok(true);
-    }
-    if !asked.asks_directive(node.name.as_str(), row.number) {
-        return Ok(true);
-    }
-    keeps_requirement(alloc, problem, graph, node, row)
-}
-
-fn add_requirements<D: AskedDemands>(
-    alloc: Global,
-    places: &mut Vec<(Word, u64)>,
-    problem: &Problem,
-    graph: &Explored,
-    asked: &D,
-    node: &Node,
-    rows: &[RequireRow],
-) -> Result<(), AllocError>
-    ensures { OnOk result (places.new.items ≡ places.old.items
-        ++ row_places (D.asks asked.now) (λ row. row.number)
-        (keeps_requirement problem.now graph.now) node.now rows.now) }
-{
-    for row in rows {
-        let kept = keeps_requirement_asked(alloc, problem, graph, asked, node, row)?;
-        add_unless(alloc, places, kept, node.name.as_str(), row.number)?;
-    }
-    Ok(())
-}
-
-fn add_all_requirements<D: AskedDemands>(
-    alloc: Global,
-    places: &mut Vec<(Word, u64)>,
-    problem: &Problem,
-    graph: &Explored,
-    asked: &D,
-    nodes: &[Node],
-) -> Result<(), AllocError>
-    ensures { OnOk result (places.new.items ≡ places.old.items
-        ++ rows_places (D.asks asked.now) (requirements_at problem.now) (λ row. row.number)
-        (keeps_requirement problem.now graph.now) nodes.now) }
-{
-    for node in nodes {
-        let rows = requirements_at(problem, node.name.as_str());
-        add_requirements(alloc, places, problem, graph, asked, node, rows)?;
-    }
-    Ok(())
-}
-
-/// Where a `requires` is broken.
-pub(crate) fn requirement_places<D: AskedDemands>(
-    alloc: Global,
-    problem: &Problem,
-    graph: &Explored,
-    asked: &D,
-) -> Result<Vec<(Word, u64)>, AllocError>
-    ensures { IfOk result (λ places. places.items ≡ broken_rows (requirements_at problem.now)
-        (λ row. row.number) (keeps_asked_row (D.asks asked.now) (λ row. row.number)
-        (keeps_requirement problem.now graph.now)) graph.now) }
-{
-    let mut places = Vec::new(alloc);
-    let nodes = graph.graph().nodes();
-    add_all_requirements(alloc, &mut places, problem, graph, asked, nodes)?;
-    Ok(places)
 }

@@ -1,18 +1,18 @@
 //! The first broken rule.
 ghost use Rattle.std.specs.Prelude.{◌≡◌, ◌↔◌, true, IfOk, filter_map, slice_get};
+ghost use Rattle.std.specs.Option.{option_copied};
 ghost use Rattle.problem.specs.Demands.{demands};
 ghost use Rattle.graph_rules.specs.Valid.{valid, valid_for};
-ghost use Rattle.graph_rules.specs.Verdict.{breaks_of, first_broken, least, verdict, verdict_of};
-ghost use Rattle.graph_rules.specs.Verdict.{verdict_for};
+ghost use Rattle.graph_rules.specs.Verdict.{first_broken, least, verdict, verdict_of, verdict_for};
 ghost use Rattle.graph_rules.specs.declared.rule.Verdict.{Verdict};
-ghost use Rattle.graph_judge.specs.Places.{found_of};
+ghost use Rattle.graph_judge.specs.Judging.{asked, asked_of};
+ghost use Rattle.graph_judge.specs.Places.{breaks, found_of};
 
-use crate::asked::{All, AskedDemands, Listed};
-use crate::nodes::{NodeRule, node_places};
-use crate::others::{ProviderRule, provider_places, root_places};
+use crate::judging::Judge;
+use crate::nodes::NodeRule;
+use crate::others::ProviderRule;
 use crate::places::least_of;
-use crate::rows::{conflict_places, depend_places, requirement_places};
-use crate::settings::setting_places;
+use crate::rows::{ConflictRule, DependRule, RequireRule};
 use graph_core::Graph;
 use graph_rules::{Rule, Verdict};
 use plain_data::{Duplicate, Word};
@@ -41,95 +41,77 @@ const RULES: [Rule; 18] = [
     Rule::Unreachable,
 ];
 
-/// The places where a rule is broken.
-#[tactic(auto, unfolding(graph_rules::specs::Verdict::breaks_of, crate::specs::Places::keeps_at))]
-fn places_of<D: AskedDemands>(
-    alloc: Global,
-    rule: Rule,
-    problem: &Problem,
-    graph: &Explored,
-    asked: &D,
-) -> Result<Vec<(Word, u64)>, AllocError>
-    ensures { IfOk result (λ places. places.items ≡ breaks_of (D.asks asked.now) rule
-        problem.now graph.now) }
-{
-    match rule {
-        Rule::Root => root_places(alloc, problem, graph, asked, problem.roots()),
-        Rule::Buildable => node_places(alloc, NodeRule::Buildable, problem, graph),
-        Rule::Version => node_places(alloc, NodeRule::Version, problem, graph),
-        Rule::Variant => node_places(alloc, NodeRule::Variant, problem, graph),
-        Rule::Compiler => node_places(alloc, NodeRule::Compiler, problem, graph),
-        Rule::Machine => node_places(alloc, NodeRule::Machine, problem, graph),
-        Rule::Edge => depend_places(alloc, false, problem, graph, asked),
-        Rule::ExtraEdge => node_places(alloc, NodeRule::ExtraEdge, problem, graph),
-        Rule::Constraint => depend_places(alloc, true, problem, graph, asked),
-        Rule::Conflict => conflict_places(alloc, problem, graph, asked),
-        Rule::Requirement => requirement_places(alloc, problem, graph, asked),
-        Rule::Required => setting_places(alloc, problem, graph, asked),
-        Rule::Kept => node_places(alloc, NodeRule::Kept, problem, graph),
-        Rule::Provider => provider_places(alloc, ProviderRule::Provider, problem, graph),
-        Rule::UnusedProvider => {
-            provider_places(alloc, ProviderRule::UnusedProvider, problem, graph)
-        }
-        Rule::Together => provider_places(alloc, ProviderRule::Together, problem, graph),
-        Rule::Cycle => node_places(alloc, NodeRule::Cycle, problem, graph),
-        Rule::Unreachable => node_places(alloc, NodeRule::Unreachable, problem, graph),
-    }
-}
-
-/// The verdict that a rule is broken, at its least place.
-fn broken<D: AskedDemands>(
-    alloc: Global,
-    rule: Rule,
-    problem: &Problem,
-    graph: &Explored,
-    asked: &D,
-) -> Result<Option<Verdict>, AllocError>
-    ensures { IfOk result (λ found. found
-        ≡ found_of rule (least (breaks_of (D.asks asked.now) rule problem.now graph.now))) }
-{
-    let places = places_of(alloc, rule, problem, graph, asked)?;
-    match least_of(places.as_slice()) {
-        Some(place) => Ok(Some(Verdict::Broken {
-            rule,
-            node: place.0.duplicate(alloc)?,
-            directive: place.1,
-        })),
-        None => Ok(None),
-    }
-}
-
-/// The verdict of the first rule that is broken.
-fn first_broken<D: AskedDemands>(
-    alloc: Global,
-    problem: &Problem,
-    graph: &Explored,
-    asked: &D,
-    rules: &[Rule],
-) -> Result<Verdict, AllocError>
-    ensures { IfOk result (λ said. said ≡ first_broken (D.asks asked.now) rules.now
-        problem.now graph.now) }
-{
-    for rule in rules {
-        let found = broken(alloc, *rule, problem, graph, asked)?;
-        if let Some(said) = found {
-            return Ok(said);
+impl<'a> Judge<'a> {
+    /// The places where a rule is broken.
+    #[tactic(auto, unfolding(graph_rules::specs::Verdict::breaks_of, crate::specs::Places::keeps_at))]
+    fn places_of(&self, rule: Rule) -> Result<Vec<(Word, u64)>, AllocError>
+        ensures { IfOk result (λ places. places.items ≡ breaks rule self.now) }
+    {
+        match rule {
+            Rule::Root => self.root_places(self.problem().roots()),
+            Rule::Buildable => self.node_places(NodeRule::Buildable),
+            Rule::Version => self.node_places(NodeRule::Version),
+            Rule::Variant => self.node_places(NodeRule::Variant),
+            Rule::Compiler => self.node_places(NodeRule::Compiler),
+            Rule::Machine => self.node_places(NodeRule::Machine),
+            Rule::Edge => self.row_places(&DependRule::Edge),
+            Rule::ExtraEdge => self.node_places(NodeRule::ExtraEdge),
+            Rule::Constraint => self.row_places(&DependRule::Constraint),
+            Rule::Conflict => self.row_places(&ConflictRule {}),
+            Rule::Requirement => self.row_places(&RequireRule::Recipe),
+            Rule::Required => self.row_places(&RequireRule::Settings),
+            Rule::Kept => self.node_places(NodeRule::Kept),
+            Rule::Provider => self.provider_places(ProviderRule::Provider),
+            Rule::UnusedProvider => self.provider_places(ProviderRule::UnusedProvider),
+            Rule::Together => self.provider_places(ProviderRule::Together),
+            Rule::Cycle => self.node_places(NodeRule::Cycle),
+            Rule::Unreachable => self.node_places(NodeRule::Unreachable),
         }
     }
-    Ok(Verdict::Valid)
+
+    /// The verdict that a rule is broken, at its least place.
+    fn broken(&self, rule: Rule) -> Result<Option<Verdict>, AllocError>
+        ensures { IfOk result (λ found. found ≡ found_of rule (least (breaks rule self.now))) }
+    {
+        let places = self.places_of(rule)?;
+        match least_of(places.as_slice()) {
+            Some(place) => Ok(Some(Verdict::Broken {
+                rule,
+                node: place.0.duplicate(self.alloc())?,
+                directive: place.1,
+            })),
+            None => Ok(None),
+        }
+    }
+
+    /// The verdict of the first rule that is broken.
+    fn first_broken(&self, rules: &[Rule]) -> Result<Verdict, AllocError>
+        ensures { IfOk result (λ said. said
+            ≡ first_broken (asked self.now) rules.now self.now.problem self.now.graph) }
+    {
+        for rule in rules {
+            let found = self.broken(*rule)?;
+            if let Some(said) = found {
+                return Ok(said);
+            }
+        }
+        Ok(Verdict::Valid)
+    }
 }
 
 #[tactic(auto, unfolding(graph_rules::specs::Verdict::verdict_of))]
-fn verdict_of<D: AskedDemands>(
+fn verdict_of<'a>(
     alloc: Global,
-    problem: &Problem,
-    graph: &Graph,
-    asked: &D,
+    problem: &'a Problem,
+    graph: &'a Graph,
+    ids: Option<&'a [u64]>,
 ) -> Result<Verdict, AllocError>
-    ensures { IfOk result (λ said. said ≡ verdict_of (D.asks asked.now) problem.now graph.now) }
+    ensures { IfOk result (λ said. said
+        ≡ verdict_of (asked_of problem.now (option_copied ids.entry)) problem.now graph.now) }
 {
     let explored = Explored::new(alloc, graph)?;
-    first_broken(alloc, problem, &explored, asked, &RULES)
+    let judge = Judge::new(alloc, problem, &explored, ids);
+    judge.first_broken(&RULES)
 }
 
 /// The verdict on a graph: Valid exactly where no rule is broken, else the first broken rule, there
@@ -141,7 +123,7 @@ pub fn judge(alloc: Global, problem: &Problem, graph: &Graph) -> Result<Verdict,
     ensures valid { IfOk result (λ said. (said ≡ Verdict.Valid)
         ↔ (valid problem.now graph.now ≡ true)) }
 {
-    let said = verdict_of(alloc, problem, graph, &All {})?;
+    let said = verdict_of(alloc, problem, graph, None)?;
     Ok(said)
 }
 
@@ -160,6 +142,6 @@ pub fn judge_for(
         ↔ (valid_for asked problem.now graph.now ≡ true)) }
 {
     let _nodes = graph.nodes();
-    let said = verdict_of(alloc, problem, graph, &Listed { problem, ids })?;
+    let said = verdict_of(alloc, problem, graph, Some(ids))?;
     Ok(said)
 }

@@ -1,7 +1,7 @@
 //! The checks of the rules of a valid graph, at one node, one directive, one provider or one root.
 //!
-//! What it is: a call `keeps_..` for each definition of that name of `graph_rules`; `judge` runs
-//! them.
+//! What it is: `Checks`, with a call `keeps_..` for each definition of that name of `graph_rules`;
+//! `judge` runs them.
 //! What it promises: each answers what its definition computes, and errs for want of memory alone.
 //! What it stands on: `graph_rules` for the definitions, `problem` for what is looked up,
 //! `condition_rules` for conditions, `keyed_lists` for rows by the names that they ask for.
@@ -10,6 +10,7 @@
 
 mod asked_rows;
 mod built;
+mod checks;
 mod directives;
 mod edges;
 mod external;
@@ -18,10 +19,5 @@ mod same;
 mod variants;
 mod whole;
 
-pub use built::{keeps_buildable, keeps_compiler, keeps_machine, keeps_version};
-pub use directives::{keeps_conflict, keeps_constraint, keeps_edge, keeps_requirement, keeps_root};
-pub use edges::{asks, keeps_extra_edge};
+pub use checks::Checks;
 pub use external::external_node;
-pub use kept::keeps_kept;
-pub use variants::keeps_variant;
-pub use whole::{keeps_no_cycle, keeps_provider, keeps_reachable, keeps_together, keeps_used};

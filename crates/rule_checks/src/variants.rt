@@ -9,66 +9,21 @@ ghost use Rattle.recipe_data.specs.Right.{is_count_of};
 ghost use Rattle.problem.specs.Problems.{applies};
 ghost use Rattle.graph_rules.specs.Built.{governed, allows, is_allowed, has_governed};
 ghost use Rattle.graph_rules.specs.Built.{keeps_variant};
+ghost use Rattle.rule_checks.specs.Checked.{at};
 
+use crate::checks::Checks;
 use condition_rules::{Definitions, governing};
 use graph_core::Node;
 use plain_data::{Duplicate, Word};
-use problem::{Explored, Problem, applies, names_of, variants_at};
+use problem::{applies, names_of, variants_at};
 use recipe_data::VariantRow;
-use std::alloc::{AllocError, Global};
+use std::alloc::AllocError;
 use variant_values::{ValueSet, VariantKind};
-
-/// The names of the variants whose rows apply at a node.
-fn governed_names(
-    alloc: Global,
-    problem: &Problem,
-    graph: &Explored,
-    node: &Node,
-    rows: &[VariantRow],
-) -> Result<Vec<Word>, AllocError>
-    ensures { IfOk result (λ names. names.items ≡ map (λ row. row.name)
-        (filter (λ row. applies problem.now graph.now row.when node.now) rows.now)) }
-{
-    let mut names = Vec::new(alloc);
-    for row in rows {
-        if applies(alloc, problem, graph, &row.when, node)? {
-            names.push(row.name.duplicate(alloc)?)?;
-        }
-    }
-    Ok(names)
-}
-
-/// The variants with a governing definition, in byte order.
-fn governed(
-    alloc: Global,
-    problem: &Problem,
-    graph: &Explored,
-    node: &Node,
-) -> Result<ValueSet, AllocError>
-    ensures { IfOk result (λ names. names ≡ governed problem.now graph.now node.now) }
-{
-    let rows = variants_at(problem, node.name.as_str());
-    let names = governed_names(alloc, problem, graph, node, rows)?;
-    Ok(ValueSet::from_words(names))
-}
 
 pub(crate) fn same_names(a: &[Word], b: &[Word]) -> bool
     ensures { result ≡ pointwise bytes_eq a.now b.now }
 {
     a == b
-}
-
-fn has_governed(
-    alloc: Global,
-    problem: &Problem,
-    graph: &Explored,
-    node: &Node,
-) -> Result<bool, AllocError>
-    ensures { IfOk result (λ answer. answer ≡ has_governed problem.now graph.now node.now) }
-{
-    let wanted = governed(alloc, problem, graph, node)?;
-    let names = names_of(alloc, node.variants.as_slice())?;
-    Ok(same_names(names.as_slice(), wanted.values()))
 }
 
 fn is_count_of(kind: VariantKind, count: u64) -> bool
@@ -92,58 +47,83 @@ fn allows(values: &ValueSet, row: &VariantRow) -> bool
     includes(&row.values, values) && is_count_of(row.kind, values.len())
 }
 
-/// Whether the definition that governs a variant allows its values.
-fn is_allowed(
-    alloc: Global,
-    definitions: &Definitions,
-    graph: &Explored,
-    variant: &(Word, ValueSet),
-) -> Result<bool, AllocError>
-    ensures { IfOk result (λ answer. answer ≡ is_some_and
-        (governing definitions.now.0 graph.now definitions.now.1 variant.now.0)
-        (allows variant.now.1)) }
-{
-    match governing(alloc, definitions, graph, variant.0.as_str())? {
-        Some(row) => Ok(allows(&variant.1, row)),
-        None => Ok(false),
+impl<'a> Checks<'a> {
+    /// The names of the variants whose rows apply at a node.
+    fn governed_names(&self, node: &Node, rows: &[VariantRow]) -> Result<Vec<Word>, AllocError>
+        ensures { IfOk result (λ names. names.items ≡ map (λ row. row.name)
+            (filter (λ row. at applies self.now row.when node.now) rows.now)) }
+    {
+        let mut names = Vec::new(self.alloc());
+        for row in rows {
+            if applies(self.alloc(), self.problem(), self.graph(), &row.when, node)? {
+                names.push(row.name.duplicate(self.alloc())?)?;
+            }
+        }
+        Ok(names)
     }
-}
 
-/// Whether each variant has values that the row that governs it allows.
-///
-/// Takes n log n comparisons for n definitions and variants.
-fn all_allowed(
-    alloc: Global,
-    problem: &Problem,
-    graph: &Explored,
-    node: &Node,
-    variants: &[(Word, ValueSet)],
-) -> Result<bool, AllocError>
-    ensures { IfOk result (λ answer. answer ≡ list_all (is_allowed problem.now graph.now node.now)
-        variants.now) }
-{
-    let definitions = Definitions::new(alloc, problem.world(), node.name.as_str())?;
-    for variant in variants {
-        if !is_allowed(alloc, &definitions, graph, variant)? {
-            return Ok(false);
+    /// The variants with a governing definition, in byte order.
+    fn governed(&self, node: &Node) -> Result<ValueSet, AllocError>
+        ensures { IfOk result (λ names. names ≡ at governed self.now node.now) }
+    {
+        let rows = variants_at(self.problem(), node.name.as_str());
+        let names = self.governed_names(node, rows)?;
+        Ok(ValueSet::from_words(names))
+    }
+
+    fn has_governed(&self, node: &Node) -> Result<bool, AllocError>
+        ensures { IfOk result (λ answer. answer ≡ at has_governed self.now node.now) }
+    {
+        let wanted = self.governed(node)?;
+        let names = names_of(self.alloc(), node.variants.as_slice())?;
+        Ok(same_names(names.as_slice(), wanted.values()))
+    }
+
+    /// Whether the definition that governs a variant allows its values.
+    fn is_allowed(
+        &self,
+        definitions: &Definitions,
+        variant: &(Word, ValueSet),
+    ) -> Result<bool, AllocError>
+        ensures { IfOk result (λ answer. answer ≡ is_some_and
+            (governing definitions.now.0 self.now.graph definitions.now.1 variant.now.0)
+            (allows variant.now.1)) }
+    {
+        match governing(self.alloc(), definitions, self.graph(), variant.0.as_str())? {
+            Some(row) => Ok(allows(&variant.1, row)),
+            None => Ok(false),
         }
     }
-    Ok(true)
-}
 
-/// Its variants are exactly those with a governing definition, which allows their values.
-#[tactic(auto, unfolding(graph_rules::specs::Built::keeps_variant))]
-pub fn keeps_variant(
-    alloc: Global,
-    problem: &Problem,
-    graph: &Explored,
-    node: &Node,
-) -> Result<bool, AllocError>
-    ensures { IfOk result (λ answer. answer ≡ keeps_variant problem.now graph.now node.now) }
-{
-    if !has_governed(alloc, problem, graph, node)? {
-        return Ok(false);
+    /// Whether each variant has values that the row that governs it allows.
+    ///
+    /// Takes n log n comparisons for n definitions and variants.
+    fn all_allowed(&self, node: &Node, variants: &[(Word, ValueSet)]) -> Result<bool, AllocError>
+        ensures { IfOk result (λ answer. answer ≡ list_all (at is_allowed self.now node.now)
+            variants.now) }
+    {
+        let definitions = Definitions::new(
+            self.alloc(),
+            self.problem().world(),
+            node.name.as_str(),
+        )?;
+        for variant in variants {
+            if !self.is_allowed(&definitions, variant)? {
+                return Ok(false);
+            }
+        }
+        Ok(true)
     }
-    let allowed = all_allowed(alloc, problem, graph, node, node.variants.as_slice())?;
-    Ok(allowed)
+
+    /// Its variants are exactly those with a governing definition, which allows their values.
+    #[tactic(auto, unfolding(graph_rules::specs::Built::keeps_variant))]
+    pub fn keeps_variant(&self, node: &Node) -> Result<bool, AllocError>
+        ensures { IfOk result (λ answer. answer ≡ at keeps_variant self.now node.now) }
+    {
+        if !self.has_governed(node)? {
+            return Ok(false);
+        }
+        let allowed = self.all_allowed(node, node.variants.as_slice())?;
+        Ok(allowed)
+    }
 }

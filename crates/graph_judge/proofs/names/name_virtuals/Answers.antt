@@ -11,7 +11,6 @@ from_parts-requires c =
       c.in_ok-edges.ensures,
       c.in_ok-providers.ensures,
       c.nodes.ensures.nodes,
-      c.edges.ensures.edges,
       c.providers.ensures.providers,
     )
-    (still_graph (named_edge c.args.problem.now c.in_ok-explored.explored) (λ e. refl) c.args.graph.now c.nodes.ensures.graph)
+    (still_graph (named_edge c.args.problem.now c.args.graph.now) (λ e. refl) c.args.graph.now c.nodes.ensures.graph)

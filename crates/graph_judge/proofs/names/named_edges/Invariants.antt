@@ -1,7 +1,0 @@
-use Rattle.std.proofs.Common.{◌≡◌, ◌++◌, drop, map}
-use Rattle.graph_rules.specs.Named.{named_edge}
-use Rattle.graph_judge.proofs.names.named_edges.Given as goal
-
-abbrev pub invariant-loop-edge : goal.invariant-loop-edge
-invariant-loop-edge l = l.made.items ++ map (named_edge l.problem l.graph) (drop l.edge-index l.edges)
-    ≡ map (named_edge l.problem l.graph) l.edges

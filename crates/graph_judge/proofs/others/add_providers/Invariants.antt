@@ -1,7 +1,0 @@
-use Rattle.std.proofs.Common.{◌≡◌, ◌++◌, drop}
-use Rattle.graph_judge.specs.Places.{provider_test, providers_places}
-use Rattle.graph_judge.proofs.others.add_providers.Given as goal
-
-abbrev pub invariant-loop-provider : goal.invariant-loop-provider
-invariant-loop-provider l = l.places.items ++ providers_places (provider_test l.rule l.problem l.graph) (drop l.provider-index l.providers)
-    ≡ l.fn.places.items ++ providers_places (provider_test l.rule l.problem l.graph) l.providers

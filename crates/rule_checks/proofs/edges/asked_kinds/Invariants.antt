@@ -1,7 +1,0 @@
-use Rattle.std.proofs.Common.{◌≡◌, take}
-use Rattle.std.specs.List.{filter}
-use Rattle.graph_rules.specs.Built.{asks, asked_kinds}
-use Rattle.rule_checks.proofs.edges.asked_kinds.Given as goal
-
-abbrev pub invariant-loop-row : goal.invariant-loop-row
-invariant-loop-row l = l.kinds ≡ asked_kinds (filter (asks l.problem l.graph l.node l.child) (take l.row-index l.rows))

@@ -1,9 +1,0 @@
-use Rattle.std.proofs.Common.{◌∙◌, ◌||◌}
-use Rattle.reuse_db.specs.declared.record.Dependency.{Dependency}
-use Rattle.graph_rules.specs.Kept.{keeps_child}
-use Rattle.rule_checks.proofs.Filters.{all-filter}
-use Rattle.rule_checks.proofs.kept.keeps_children.Goals as goal
-
-pub returns : goal.returns
-returns c = c.keeps_each.ensures ∙ all-filter (λ (d : Dependency). d.kinds.link || d.kinds.run)
-    (keeps_child c.args.problem.now c.args.graph.now c.args.name.now) c.args.dependencies.now

@@ -1,8 +1,0 @@
-use Rattle.std.proofs.Common.{◌≡◌, take, map}
-use Rattle.std.specs.List.{filter}
-use Rattle.problem.specs.Problems.{applies}
-use Rattle.rule_checks.proofs.variants.governed_names.Given as goal
-
-abbrev pub invariant-loop-row : goal.invariant-loop-row
-invariant-loop-row l = l.names.items ≡ map (λ row. row.name)
-    (filter (λ row. applies l.problem l.graph row.when l.node) (take l.row-index l.rows))
