@@ -1,5 +1,6 @@
 pub mod AskedPaths
 mod Asking
+mod Builders
 mod Few
 mod Named
 mod Numbers

@@ -1,6 +1,9 @@
 -- what public contracts say
 pub mod Paths
 pub mod Terms
+pub mod Says
+pub mod SaysEdges
+pub mod SaysVariants
 pub mod Governing
 pub mod Asking
 pub mod Named

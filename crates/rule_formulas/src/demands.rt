@@ -1,17 +1,18 @@
 //! The formula of a demand.
 ghost use Rattle.std.specs.Prelude.{◌≡◌, IfOk, slice_get};
 ghost use Rattle.std.specs.Option.{option_copied};
-ghost use Rattle.graph_formulas.specs.Words.{names_for, rule_said};
-ghost use Rattle.graph_formulas.specs.Directives.{root_rule};
+ghost use Rattle.graph_formulas.specs.Words.{names_for};
+ghost use Rattle.graph_formulas.specs.Lists.{where_written};
+ghost use Rattle.graph_formulas.specs.Directives.{root_rule, requirement_rule};
 ghost use Rattle.problem.specs.Problems.{required_at};
+ghost use Rattle.problem.specs.declared.demand.Demand.TheVariants as demands;
 ghost use Rattle.graph_formulas.specs.Demands.{directive_rule, required_rule, demand_rule};
 ghost use Rattle.graph_formulas.specs.Laws.{has_name, term_formula};
 ghost use Rattle.graph_formulas.specs.Terms.{where_built, where_there};
 ghost use Rattle.rule_formulas.specs.Paths.{path_by};
-ghost use Rattle.rule_formulas.specs.Terms.{root_said, directives_said, required_said, setting_said};
+ghost use Rattle.rule_formulas.specs.Says.{says_by, says_demand, says_words};
 
-use crate::directives::{directive_formula, requirement_formula};
-use crate::holds_formula;
+use crate::demand_builder::DemandBuilder;
 use clause_formulas::Formula;
 use graph_levels::PathLits;
 use literal_table::LiteralTable;
@@ -21,46 +22,11 @@ use spec_grammar::Spec;
 use std::alloc::{AllocError, Global};
 use word_formulas::{MetConditions, given, where_built, where_there};
 
-/// The spec holds at the node of its name.
-fn spec_formula(
-    alloc: Global,
-    problem: &Problem,
-    table: &LiteralTable,
-    paths: &PathLits,
-    spec: &Spec,
-) -> Result<Formula, AllocError>
-    ensures { IfOk result (λ formula. formula ≡ rule_said (path_by table.now paths.now) table.now
-        (root_rule problem.now (names_for table.now) spec.now)) }
-{
-    let world = problem.world();
-    match &spec.top.name {
-        Some(name) => holds_formula(alloc, table, &world, paths, name.as_str(), spec),
-        None => Ok(given(alloc, false)),
-    }
-}
-
 /// The root at this place.
 fn root_at(problem: &Problem, place: u64) -> Option<&Spec>
     ensures { option_copied result ≡ slice_get problem.now.roots place }
 {
     problem.roots().get(place as usize)
-}
-
-/// The root at this place holds, where there is one.
-fn root_formula(
-    alloc: Global,
-    problem: &Problem,
-    table: &LiteralTable,
-    paths: &PathLits,
-    place: u64,
-) -> Result<Formula, AllocError>
-    ensures { IfOk result (λ formula. formula ≡ root_said (path_by table.now paths.now) table.now
-        problem.now (slice_get problem.now.roots place)) }
-{
-    match root_at(problem, place) {
-        Some(spec) => spec_formula(alloc, problem, table, paths, spec),
-        None => Ok(given(alloc, true)),
-    }
 }
 
 /// A node may have the name.
@@ -73,46 +39,6 @@ fn has_name(table: &LiteralTable, name: &str) -> bool
     }
 }
 
-/// Where the node of the name is to be built, it keeps the directives with this number.
-fn built_formula<C: MetConditions>(
-    alloc: Global,
-    problem: &Problem,
-    table: &LiteralTable,
-    paths: &PathLits,
-    conditions: &C,
-    name: &str,
-    number: u64,
-) -> Result<Formula, AllocError>
-    ensures { IfOk result (λ formula. formula
-        ≡ term_formula (path_by table.now paths.now) (C.condition_of conditions.now) table.now
-        (where_built name.now (directive_rule problem.now (names_for table.now) number name.now))) }
-{
-    let rule = directive_formula(alloc, problem, table, paths, conditions, name, number)?;
-    where_built(alloc, table, name, rule)
-}
-
-/// The directives with this number are kept. Of a name that no node can have nothing is said, and
-/// nothing is built.
-fn directives_formula<C: MetConditions>(
-    alloc: Global,
-    problem: &Problem,
-    table: &LiteralTable,
-    paths: &PathLits,
-    conditions: &C,
-    name: &str,
-    number: u64,
-) -> Result<Formula, AllocError>
-    ensures { IfOk result (λ formula. formula
-        ≡ directives_said (path_by table.now paths.now) (C.condition_of conditions.now) problem.now
-        table.now name.now number) }
-{
-    if has_name(table, name) {
-        built_formula(alloc, problem, table, paths, conditions, name, number)
-    } else {
-        Ok(given(alloc, true))
-    }
-}
-
 /// What the settings ask of a package at this place.
 fn row_at<'a>(problem: &'a Problem, name: &str, place: u64) -> Option<&'a RequireRow>
     ensures { option_copied result ≡ slice_get (required_at problem.now name.now) place }
@@ -120,63 +46,84 @@ fn row_at<'a>(problem: &'a Problem, name: &str, place: u64) -> Option<&'a Requir
     required_at(problem, name).get(place as usize)
 }
 
-/// What the settings ask at this place is met, where they do.
-fn required_formula<C: MetConditions>(
-    alloc: Global,
-    problem: &Problem,
-    table: &LiteralTable,
-    paths: &PathLits,
-    conditions: &C,
-    name: &str,
-    place: u64,
-) -> Result<Formula, AllocError>
-    ensures { IfOk result (λ formula. formula
-        ≡ required_said (path_by table.now paths.now) (C.condition_of conditions.now) problem.now
-        table.now name.now (slice_get (required_at problem.now name.now) place)) }
-{
-    match row_at(problem, name, place) {
-        Some(row) => requirement_formula(alloc, problem, table, paths, conditions, name, row),
-        None => Ok(given(alloc, true)),
+impl<'a, C: MetConditions> DemandBuilder<'a, C> {
+    /// The spec holds at the node of its name.
+    fn spec_formula(&self, spec: &Spec) -> Result<Formula, AllocError>
+        ensures { IfOk result (says_words self.now
+            (λ problem names. root_rule problem names spec.now)) }
+    {
+        let world = self.problem.world();
+        match &spec.top.name {
+            Some(name) => self.specs(&world).holds_formula(name.as_str(), spec),
+            None => Ok(given(self.alloc, false)),
+        }
     }
-}
 
-/// Where the node of the name is there, it keeps the requirement of the settings at this place.
-fn there_formula<C: MetConditions>(
-    alloc: Global,
-    problem: &Problem,
-    table: &LiteralTable,
-    paths: &PathLits,
-    conditions: &C,
-    name: &str,
-    place: u64,
-) -> Result<Formula, AllocError>
-    ensures { IfOk result (λ formula. formula
-        ≡ term_formula (path_by table.now paths.now) (C.condition_of conditions.now) table.now
-        (where_there name.now (required_rule problem.now (names_for table.now) place name.now))) }
-{
-    let rule = required_formula(alloc, problem, table, paths, conditions, name, place)?;
-    where_there(alloc, table, name, rule)
-}
+    /// The root at this place holds, where there is one.
+    fn root_formula(&self, place: u64) -> Result<Formula, AllocError>
+        ensures { IfOk result (says_words self.now (λ problem names.
+            where_written (slice_get problem.roots place) (root_rule problem names))) }
+    {
+        match root_at(self.problem, place) {
+            Some(spec) => self.spec_formula(spec),
+            None => Ok(given(self.alloc, true)),
+        }
+    }
 
-/// The requirement of the settings at this place is kept. Of a name that no node can have nothing
-/// is said, and nothing is built.
-fn setting_formula<C: MetConditions>(
-    alloc: Global,
-    problem: &Problem,
-    table: &LiteralTable,
-    paths: &PathLits,
-    conditions: &C,
-    name: &str,
-    place: u64,
-) -> Result<Formula, AllocError>
-    ensures { IfOk result (λ formula. formula
-        ≡ setting_said (path_by table.now paths.now) (C.condition_of conditions.now) problem.now
-        table.now name.now place) }
-{
-    if has_name(table, name) {
-        there_formula(alloc, problem, table, paths, conditions, name, place)
-    } else {
-        Ok(given(alloc, true))
+    /// Where the node of the name is to be built, it keeps the directives with this number.
+    fn built_formula(&self, name: &str, number: u64) -> Result<Formula, AllocError>
+        ensures { IfOk result (says_by C.condition_of self.now (λ problem names.
+            where_built name.now (directive_rule problem names number name.now))) }
+    {
+        let rule = self.directive_formula(name, number)?;
+        where_built(self.alloc, self.table, name, rule)
+    }
+
+    /// The directives with this number are kept. Of a name that no node can have nothing is said,
+    /// and nothing is built.
+    fn directives_formula(&self, name: &str, number: u64) -> Result<Formula, AllocError>
+        ensures { IfOk result (says_demand C.condition_of self.now
+            (demands.Directive name.now number)) }
+    {
+        if has_name(self.table, name) {
+            self.built_formula(name, number)
+        } else {
+            Ok(given(self.alloc, true))
+        }
+    }
+
+    /// What the settings ask at this place is met, where they do.
+    fn required_formula(&self, name: &str, place: u64) -> Result<Formula, AllocError>
+        ensures { IfOk result (says_by C.condition_of self.now (λ problem names.
+            where_written (slice_get (required_at problem name.now) place)
+            (requirement_rule problem names name.now))) }
+    {
+        match row_at(self.problem, name, place) {
+            Some(row) => self.requirement_formula(name, row),
+            None => Ok(given(self.alloc, true)),
+        }
+    }
+
+    /// Where the node of the name is there, it keeps the requirement of the settings at this place.
+    fn there_formula(&self, name: &str, place: u64) -> Result<Formula, AllocError>
+        ensures { IfOk result (says_by C.condition_of self.now (λ problem names.
+            where_there name.now (required_rule problem names place name.now))) }
+    {
+        let rule = self.required_formula(name, place)?;
+        where_there(self.alloc, self.table, name, rule)
+    }
+
+    /// The requirement of the settings at this place is kept. Of a name that no node can have
+    /// nothing is said, and nothing is built.
+    fn setting_formula(&self, name: &str, place: u64) -> Result<Formula, AllocError>
+        ensures { IfOk result (says_demand C.condition_of self.now
+            (demands.Setting name.now place)) }
+    {
+        if has_name(self.table, name) {
+            self.there_formula(name, place)
+        } else {
+            Ok(given(self.alloc, true))
+        }
     }
 }
 
@@ -193,15 +140,18 @@ pub fn demand_formula<C: MetConditions>(
         ≡ term_formula (path_by table.now paths.now) (C.condition_of conditions.now) table.now
         (demand_rule problem.now (names_for table.now) (has_name table.now) demand.now)) }
 {
+    let builder = DemandBuilder {
+        alloc,
+        problem,
+        table,
+        paths,
+        conditions,
+    };
     match demand {
-        Demand::Root(place) => root_formula(alloc, problem, table, paths, *place),
+        Demand::Root(place) => builder.root_formula(*place),
         Demand::Directive { package, number } => {
-            let name = package.as_str();
-            directives_formula(alloc, problem, table, paths, conditions, name, *number)
+            builder.directives_formula(package.as_str(), *number)
         }
-        Demand::Setting { package, number } => {
-            let name = package.as_str();
-            setting_formula(alloc, problem, table, paths, conditions, name, *number)
-        }
+        Demand::Setting { package, number } => builder.setting_formula(package.as_str(), *number),
     }
 }

@@ -1,16 +1,15 @@
 //! Formulas of edges that none asks for.
-ghost use Rattle.std.specs.Prelude.{◌≡◌, map, filter, IfOk};
+ghost use Rattle.std.specs.Prelude.{◌≡◌, IfOk};
 ghost use Rattle.std.specs.Str.{bytes_eq};
-ghost use Rattle.clause_formulas.specs.Statements.{all_statements};
 ghost use Rattle.graph_formulas.specs.Words.{names_for};
 ghost use Rattle.graph_formulas.specs.Edges.{asks_rule, extra_edges_rule};
 ghost use Rattle.graph_formulas.specs.Laws.{virtuals_on};
 ghost use Rattle.literal_table.specs.Tables.{children_of};
-ghost use Rattle.rule_formulas.specs.Asking.{may_name_as, asking_said, kind_said, extra_edge_said};
+ghost use Rattle.rule_formulas.specs.Asking.{may_name_as};
+ghost use Rattle.rule_formulas.specs.SaysEdges.{says_edges, says_asking, says_kind, says_edge, says_all};
 ghost use Rattle.rule_formulas.specs.Terms.{plain_term, kinds_of, has_of};
 
 use crate::asking_rows::{AskingRow, asking_rows};
-use crate::extra_virtuals::virtuals_formula;
 use crate::named_rows::NamedRows;
 use clause_formulas::Formula;
 use graph_core::Kinds;
@@ -19,6 +18,21 @@ use problem::Problem;
 use recipe_data::DependRow;
 use std::alloc::{AllocError, Global};
 use word_formulas::{MetConditions, asks_formula, each_where, has_edge, some_where};
+
+/// The edges from a name, with the rows that may ask for them and what gives conditions their
+/// formulas.
+#[derive(Drop)]
+pub(crate) struct EdgeBuilder<'a, 'r, C> {
+    pub(crate) alloc: Global,
+    pub(crate) problem: &'a Problem,
+    pub(crate) table: &'a LiteralTable,
+    pub(crate) conditions: &'a C,
+    pub(crate) name: &'a str,
+    /// The rows, each with the packages that it may ask for.
+    pub(crate) rows: &'a [AskingRow<'r>],
+    /// The same rows, found by the names that they ask for.
+    pub(crate) named: &'a NamedRows<'r>,
+}
 
 /// What an edge is for.
 #[derive(Clone, Copy)]
@@ -68,150 +82,68 @@ fn may_name_as(kind: EdgeKind, child: &str, asking: &AskingRow) -> bool
     has(kind, &asking.row().kinds) && asking.may_name(child)
 }
 
-/// The condition of the row is met, and it asks for this child.
-fn row_formula<C: MetConditions>(
-    alloc: Global,
-    problem: &Problem,
-    table: &LiteralTable,
-    conditions: &C,
-    name: &str,
-    child: &str,
-    row: &DependRow,
-) -> Result<Formula, AllocError>
-    ensures { IfOk result (λ formula. formula ≡ plain_term table.now (C.condition_of conditions.now)
-        (asks_rule problem.now (names_for table.now) name.now child.now row.now)) }
-{
-    let met = conditions.met(alloc, name, &row.when)?;
-    asks_formula(alloc, table, problem, child, row, met)
-}
-
-/// Some row asks for the child as this kind.
-fn asking_formula<C: MetConditions>(
-    alloc: Global,
-    problem: &Problem,
-    table: &LiteralTable,
-    conditions: &C,
-    rows: &[AskingRow],
-    kind: EdgeKind,
-    name: &str,
-    child: &str,
-) -> Result<Formula, AllocError>
-    ensures { IfOk result (λ formula. formula ≡ asking_said problem.now table.now
-        (C.condition_of conditions.now) rows.now kind name.now child.now) }
-{
-    some_where(
-        alloc,
-        rows,
-        |asking| may_name_as(kind, child, asking),
-        |asking| row_formula(alloc, problem, table, conditions, name, child, asking.row()),
-    )
-}
-
-/// Where the edge has the kind, some row asks for it.
-fn kind_formula<C: MetConditions>(
-    alloc: Global,
-    problem: &Problem,
-    table: &LiteralTable,
-    conditions: &C,
-    rows: &[AskingRow],
-    kind: EdgeKind,
-    name: &str,
-    child: &str,
-) -> Result<Formula, AllocError>
-    ensures { IfOk result (λ formula. formula ≡ kind_said problem.now table.now
-        (C.condition_of conditions.now) rows.now kind name.now child.now) }
-{
-    let kinds = kinds_of(kind);
-    let edge = has_edge(alloc, table, name, child, &kinds)?;
-    let asked = asking_formula(alloc, problem, table, conditions, rows, kind, name, child)?;
-    Formula::implies(alloc, edge, asked)
-}
-
-/// The edge has no kind and no virtual that none asks for.
-fn extra_edge_formula<C: MetConditions>(
-    alloc: Global,
-    problem: &Problem,
-    table: &LiteralTable,
-    conditions: &C,
-    rows: &[AskingRow],
-    named: &NamedRows,
-    name: &str,
-    child: &str,
-) -> Result<Formula, AllocError>
-    ensures { IfOk result (λ formula. formula ≡ extra_edge_said problem.now table.now
-        (C.condition_of conditions.now) rows.now named.now name.now child.now) }
-{
-    let build = kind_formula(
-        alloc,
-        problem,
-        table,
-        conditions,
-        rows,
-        EdgeKind::Build,
-        name,
-        child,
-    )?;
-    let link = kind_formula(
-        alloc,
-        problem,
-        table,
-        conditions,
-        rows,
-        EdgeKind::Link,
-        name,
-        child,
-    )?;
-    let run = kind_formula(
-        alloc,
-        problem,
-        table,
-        conditions,
-        rows,
-        EdgeKind::Run,
-        name,
-        child,
-    )?;
-    let most = Formula::both(alloc, build, link)?;
-    let kinds = Formula::both(alloc, most, run)?;
-    let virtuals = virtuals_formula(alloc, table, conditions, named, child)?;
-    Formula::both(alloc, kinds, virtuals)
-}
-
 fn leaves(edge: &EdgeLits, name: &str) -> bool
     ensures { result ≡ bytes_eq edge.now.parent name.now }
 {
     edge.parent.as_str() == name
 }
 
-/// No edge from the name has a kind or a virtual that none of these rows asks for.
-fn edges_formula<C: MetConditions>(
-    alloc: Global,
-    problem: &Problem,
-    table: &LiteralTable,
-    conditions: &C,
-    rows: &[AskingRow],
-    named: &NamedRows,
-    name: &str,
-) -> Result<Formula, AllocError>
-    ensures { IfOk result (λ formula. formula ≡ all_statements (map (extra_edge_said problem.now
-        table.now (C.condition_of conditions.now) rows.now named.now name.now)
-        (children_of table.now name.now))) }
-{
-    each_where(
-        alloc,
-        table.edges(),
-        |edge| leaves(edge, name),
-        |edge| extra_edge_formula(
-            alloc,
-            problem,
-            table,
-            conditions,
-            rows,
-            named,
-            name,
-            edge.child.as_str(),
-        ),
-    )
+impl<'a, 'r, C: MetConditions> EdgeBuilder<'a, 'r, C> {
+    /// The condition of the row is met, and it asks for this child.
+    fn row_formula(&self, child: &str, row: &DependRow) -> Result<Formula, AllocError>
+        ensures { IfOk result (says_edges C.condition_of self.now
+            (λ problem names name. asks_rule problem names name child.now row.now)) }
+    {
+        let met = self.conditions.met(self.alloc, self.name, &row.when)?;
+        asks_formula(self.alloc, self.table, self.problem, child, row, met)
+    }
+
+    /// Some row asks for the child as this kind.
+    fn asking_formula(&self, kind: EdgeKind, child: &str) -> Result<Formula, AllocError>
+        ensures { IfOk result (says_asking C.condition_of self.now kind child.now) }
+    {
+        some_where(
+            self.alloc,
+            self.rows,
+            |asking| may_name_as(kind, child, asking),
+            |asking| self.row_formula(child, asking.row()),
+        )
+    }
+
+    /// Where the edge has the kind, some row asks for it.
+    fn kind_formula(&self, kind: EdgeKind, child: &str) -> Result<Formula, AllocError>
+        ensures { IfOk result (says_kind C.condition_of self.now kind child.now) }
+    {
+        let kinds = kinds_of(kind);
+        let edge = has_edge(self.alloc, self.table, self.name, child, &kinds)?;
+        let asked = self.asking_formula(kind, child)?;
+        Formula::implies(self.alloc, edge, asked)
+    }
+
+    /// The edge has no kind and no virtual that none asks for.
+    fn extra_edge_formula(&self, child: &str) -> Result<Formula, AllocError>
+        ensures { IfOk result (says_edge C.condition_of self.now child.now) }
+    {
+        let build = self.kind_formula(EdgeKind::Build, child)?;
+        let link = self.kind_formula(EdgeKind::Link, child)?;
+        let run = self.kind_formula(EdgeKind::Run, child)?;
+        let most = Formula::both(self.alloc, build, link)?;
+        let kinds = Formula::both(self.alloc, most, run)?;
+        let virtuals = self.virtuals_formula(child)?;
+        Formula::both(self.alloc, kinds, virtuals)
+    }
+
+    /// No edge from the name has a kind or a virtual that none of these rows asks for.
+    fn edges_formula(&self) -> Result<Formula, AllocError>
+        ensures { IfOk result (says_all C.condition_of self.now) }
+    {
+        each_where(
+            self.alloc,
+            self.table.edges(),
+            |edge| leaves(edge, self.name),
+            |edge| self.extra_edge_formula(edge.child.as_str()),
+        )
+    }
 }
 
 /// No edge from the name has a kind or a virtual that none asks for.
@@ -228,13 +160,14 @@ pub fn extra_edges_formula<C: MetConditions>(
 {
     let rows = asking_rows(alloc, problem, table, name)?;
     let named = NamedRows::new(alloc, problem, name)?;
-    edges_formula(
+    let builder = EdgeBuilder {
         alloc,
         problem,
         table,
         conditions,
-        rows.as_slice(),
-        &named,
         name,
-    )
+        rows: rows.as_slice(),
+        named: &named,
+    };
+    builder.edges_formula()
 }

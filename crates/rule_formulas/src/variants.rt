@@ -4,7 +4,7 @@ ghost use Rattle.clause_formulas.specs.Statements.{any_statement, both_statement
 ghost use Rattle.graph_formulas.specs.Variants.{variant_rule, variants_rule};
 ghost use Rattle.graph_formulas.specs.Laws.{variants_of};
 ghost use Rattle.rule_formulas.specs.Terms.{plain_term};
-ghost use Rattle.rule_formulas.specs.Governing.{met_said, governs_said, last_parts, last_said};
+ghost use Rattle.rule_formulas.specs.SaysVariants.{met_by_some, governs_by, each_governs, last_by};
 
 use crate::definitions::PackageDefinitions;
 use clause_formulas::Formula;
@@ -19,129 +19,104 @@ use word_formulas::{MetConditions, allows_formula, each, has_variant, some};
 /// How many definitions are kept apart one by one.
 const SHORT: usize = 8;
 
-/// The condition of some of these definitions is met.
-fn met_formula<C: MetConditions>(
+/// A variant of the node of a name, and what gives conditions their formulas.
+#[derive(Drop)]
+struct VariantBuilder<'a, C> {
     alloc: Global,
-    conditions: &C,
-    name: &str,
-    rows: &[&VariantRow],
-) -> Result<Formula, AllocError>
-    ensures { IfOk result (λ formula. formula
-        ≡ met_said (C.condition_of conditions.now) name.now rows.now) }
-{
-    some(alloc, rows, |row| conditions.met(alloc, name, &row.when))
+    table: &'a LiteralTable,
+    conditions: &'a C,
+    name: &'a str,
+    variant: &'a str,
 }
 
-/// The condition is met, and none of the later definitions; and the definition allows the values.
-fn governs_formula<C: MetConditions>(
-    alloc: Global,
-    table: &LiteralTable,
-    conditions: &C,
-    name: &str,
-    variant: &str,
-    row: &VariantRow,
-    rest: &[&VariantRow],
-) -> Result<Formula, AllocError>
-    ensures { IfOk result (λ formula. formula
-        ≡ governs_said table.now (C.condition_of conditions.now) name.now variant.now
-        row.now rest.now) }
-{
-    let later = met_formula(alloc, conditions, name, rest)?;
-    let met = conditions.met(alloc, name, &row.when)?;
-    let last = Formula::both(alloc, later.negated(), met)?;
-    let allowed = allows_formula(alloc, table, name, variant, row)?;
-    Formula::both(alloc, last, allowed)
-}
-
-/// Of each of these definitions: it governs, and allows the values.
-fn push_last<C: MetConditions>(
-    alloc: Global,
-    parts: &mut Vec<Formula>,
-    table: &LiteralTable,
-    conditions: &C,
-    name: &str,
-    variant: &str,
-    rows: &[&VariantRow],
-) -> Result<(), AllocError>
-    ensures { OnOk result (parts.new.items ≡ parts.old.items
-        ++ last_parts table.now (C.condition_of conditions.now) name.now variant.now rows.now) }
-{
-    for (i, row) in rows.iter().enumerate() {
-        let governs = governs_formula(
-            alloc,
-            table,
-            conditions,
-            name,
-            variant,
-            row,
-            &rows[i + 1..],
-        )?;
-        parts.push(governs)?;
+impl<'a, C: MetConditions> VariantBuilder<'a, C> {
+    /// The condition of some of these definitions is met.
+    fn met_formula(&self, rows: &[&VariantRow]) -> Result<Formula, AllocError>
+        ensures { IfOk result (λ formula. formula
+            ≡ met_by_some C.condition_of self.now rows.now) }
+    {
+        some(
+            self.alloc,
+            rows,
+            |row| self.conditions.met(self.alloc, self.name, &row.when),
+        )
     }
-    Ok(())
-}
 
-/// Some definition of a short list governs, and allows the values.
-fn last_in_turn<C: MetConditions>(
-    alloc: Global,
-    table: &LiteralTable,
-    conditions: &C,
-    name: &str,
-    variant: &str,
-    rows: &[&VariantRow],
-) -> Result<Formula, AllocError>
-    ensures { IfOk result (λ formula. formula ≡ any_statement
-        (last_parts table.now (C.condition_of conditions.now) name.now variant.now rows.now)) }
-{
-    let mut parts = Vec::new(alloc);
-    push_last(alloc, &mut parts, table, conditions, name, variant, rows)?;
-    Ok(Formula::any(parts))
-}
-
-/// The front's formula is true, and the condition of none of the back is met; or the back's is true.
-fn join_halves<C: MetConditions>(
-    alloc: Global,
-    conditions: &C,
-    name: &str,
-    rows: &[&VariantRow],
-    front: Formula,
-    back: Formula,
-) -> Result<Formula, AllocError>
-    ensures { IfOk result (λ formula. formula ≡ any_statement (both_statements (opposite
-        (met_said (C.condition_of conditions.now) name.now rows.now)) front ∷ back ∷ [])) }
-{
-    let later = met_formula(alloc, conditions, name, rows)?;
-    let mut parts = Vec::new(alloc);
-    parts.push(Formula::both(alloc, later.negated(), front)?)?;
-    parts.push(back)?;
-    Ok(Formula::any(parts))
-}
-
-/// Some definition governs, and allows the values. A long list is halved, and none of the back's
-/// conditions is met where one of the front governs: so n definitions take some n log n literals.
-/// It calls itself for each half, so as deep as the logarithm of the list's length.
-fn last_formula<C: MetConditions>(
-    alloc: Global,
-    table: &LiteralTable,
-    conditions: &C,
-    name: &str,
-    variant: &str,
-    rows: &[&VariantRow],
-    times: usize,
-) -> Result<Formula, AllocError>
-    ensures { IfOk result (λ formula. formula
-        ≡ last_said table.now (C.condition_of conditions.now) name.now variant.now times rows.now) }
-{
-    if times == 0 {
-        return last_in_turn(alloc, table, conditions, name, variant, rows);
+    /// The condition is met, and none of the later definitions; and the definition allows the
+    /// values.
+    fn governs_formula(
+        &self,
+        row: &VariantRow,
+        rest: &[&VariantRow],
+    ) -> Result<Formula, AllocError>
+        ensures { IfOk result (λ formula. formula
+            ≡ governs_by C.condition_of self.now row.now rest.now) }
+    {
+        let later = self.met_formula(rest)?;
+        let met = self.conditions.met(self.alloc, self.name, &row.when)?;
+        let last = Formula::both(self.alloc, later.negated(), met)?;
+        let allowed = allows_formula(self.alloc, self.table, self.name, self.variant, row)?;
+        Formula::both(self.alloc, last, allowed)
     }
-    if rows.len() <= SHORT {
-        return last_in_turn(alloc, table, conditions, name, variant, rows);
+
+    /// Of each of these definitions: it governs, and allows the values.
+    fn push_last(&self, parts: &mut Vec<Formula>, rows: &[&VariantRow]) -> Result<(), AllocError>
+        ensures { OnOk result (parts.new.items ≡ parts.old.items
+            ++ each_governs C.condition_of self.now rows.now) }
+    {
+        for (i, row) in rows.iter().enumerate() {
+            let governs = self.governs_formula(row, &rows[i + 1..])?;
+            parts.push(governs)?;
+        }
+        Ok(())
     }
-    let (first, second) = rows.split_at(rows.len() / 2);
-    let front = last_formula(alloc, table, conditions, name, variant, first, times - 1)?;
-    let back = last_formula(alloc, table, conditions, name, variant, second, times - 1)?;
-    join_halves(alloc, conditions, name, second, front, back)
+
+    /// Some definition of a short list governs, and allows the values.
+    fn last_in_turn(&self, rows: &[&VariantRow]) -> Result<Formula, AllocError>
+        ensures { IfOk result (λ formula. formula
+            ≡ any_statement (each_governs C.condition_of self.now rows.now)) }
+    {
+        let mut parts = Vec::new(self.alloc);
+        self.push_last(&mut parts, rows)?;
+        Ok(Formula::any(parts))
+    }
+
+    /// The front's formula is true, and the condition of none of the back is met; or the back's is
+    /// true.
+    fn join_halves(
+        &self,
+        rows: &[&VariantRow],
+        front: Formula,
+        back: Formula,
+    ) -> Result<Formula, AllocError>
+        ensures { IfOk result (λ formula. formula ≡ any_statement (both_statements
+            (opposite (met_by_some C.condition_of self.now rows.now)) front ∷ back ∷ [])) }
+    {
+        let later = self.met_formula(rows)?;
+        let mut parts = Vec::new(self.alloc);
+        parts.push(Formula::both(self.alloc, later.negated(), front)?)?;
+        parts.push(back)?;
+        Ok(Formula::any(parts))
+    }
+
+    /// Some definition governs, and allows the values. A long list is halved, and none of the
+    /// back's conditions is met where one of the front governs: so n definitions take some n log n
+    /// literals. It calls itself for each half, so as deep as the logarithm of the list's length.
+    fn last_formula(&self, rows: &[&VariantRow], times: usize) -> Result<Formula, AllocError>
+        ensures { IfOk result (λ formula. formula
+            ≡ last_by C.condition_of self.now times rows.now) }
+    {
+        if times == 0 {
+            return self.last_in_turn(rows);
+        }
+        if rows.len() <= SHORT {
+            return self.last_in_turn(rows);
+        }
+        let (first, second) = rows.split_at(rows.len() / 2);
+        let front = self.last_formula(first, times - 1)?;
+        let back = self.last_formula(second, times - 1)?;
+        self.join_halves(second, front, back)
+    }
 }
 
 /// The variant is there just where it has a governing definition, which allows its values.
@@ -158,12 +133,18 @@ fn variant_formula<C: MetConditions>(
     let name = definitions.name();
     let found = definitions.of(alloc, variant)?;
     let rows = found.as_slice();
-    let met = met_formula(alloc, conditions, name, rows)?;
+    let builder = VariantBuilder {
+        alloc,
+        table,
+        conditions,
+        name,
+        variant,
+    };
+    let met = builder.met_formula(rows)?;
     let there = has_variant(alloc, table, name, variant)?;
     let where_met = Formula::implies(alloc, met, there)?;
     let again = has_variant(alloc, table, name, variant)?;
-    let times = rows.len() / SHORT;
-    let last = last_formula(alloc, table, conditions, name, variant, rows, times)?;
+    let last = builder.last_formula(rows, rows.len() / SHORT)?;
     let where_there = Formula::implies(alloc, again, last)?;
     Formula::both(alloc, where_met, where_there)
 }

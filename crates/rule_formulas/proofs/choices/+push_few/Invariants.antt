@@ -1,4 +1,0 @@
-use Rattle.rule_formulas.proofs.choices.+push_few.Given as goal
-
-abbrev pub decreases-push_few : goal.decreases-push_few
-decreases-push_few l = l.times

@@ -1,4 +1,0 @@
-use Rattle.rule_formulas.proofs.variants.+last_formula.Given as goal
-
-abbrev pub decreases-last_formula : goal.decreases-last_formula
-decreases-last_formula g l = l.times
