@@ -1,5 +1,5 @@
 -- What the builder of a variant says: formulas of its definitions, over what it holds.
-use Rattle.std.specs.Prelude.{◌≡◌, ℕ, List}
+use Rattle.std.specs.Prelude.{ℕ, List}
 use Rattle.clause_formulas.specs.Statements.{Statement}
 use Rattle.graph_core.specs.Graphs.{Text}
 use Rattle.recipe_data.specs.OfSpecGrammar.Condition.{Condition}

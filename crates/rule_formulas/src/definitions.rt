@@ -7,7 +7,8 @@ use recipe_data::VariantRow;
 use std::alloc::{AllocError, Global};
 use std::marker::Model;
 
-/// The definitions of variants in the recipe of a name, found by the variants; seen as the problem and the name.
+/// The definitions of variants in the recipe of a name, found by the variants; seen as the problem
+/// and the name.
 #[derive(Drop)]
 pub(crate) struct PackageDefinitions<'a> {
     problem: &'a Problem,

@@ -52,6 +52,10 @@ impl<'a, 'r, C: MetConditions> EdgeBuilder<'a, 'r, C> {
             (virtuals_on self.now.table.now name child.now))) }
     {
         let virtuals = self.table.virtuals(self.named.name(), child);
-        each(self.alloc, virtuals, |choice| self.virtual_formula(child, choice))
+        each(
+            self.alloc,
+            virtuals,
+            |choice| self.virtual_formula(child, choice),
+        )
     }
 }

@@ -54,5 +54,9 @@ pub fn condition_formula(
         world,
         paths,
     };
-    each(alloc, when.specs.as_slice(), |spec| builder.holds_formula(name, spec))
+    each(
+        alloc,
+        when.specs.as_slice(),
+        |spec| builder.holds_formula(name, spec),
+    )
 }

@@ -51,9 +51,11 @@ impl<'a> ProviderBuilder<'a> {
         ensures { IfOk result (says_of_providers self.now
             (λ problem names. no_other_rule names name.now virtual_name.now)) }
     {
-        each(self.alloc, self.table.packages(virtual_name.as_str()), |choice| {
-            self.only_formula(name, virtual_name, choice)
-        })
+        each(
+            self.alloc,
+            self.table.packages(virtual_name.as_str()),
+            |choice| { self.only_formula(name, virtual_name, choice) },
+        )
     }
 
     /// So it is of each name of the row's directive.

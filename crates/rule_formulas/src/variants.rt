@@ -44,11 +44,7 @@ impl<'a, C: MetConditions> VariantBuilder<'a, C> {
 
     /// The condition is met, and none of the later definitions; and the definition allows the
     /// values.
-    fn governs_formula(
-        &self,
-        row: &VariantRow,
-        rest: &[&VariantRow],
-    ) -> Result<Formula, AllocError>
+    fn governs_formula(&self, row: &VariantRow, rest: &[&VariantRow]) -> Result<Formula, AllocError>
         ensures { IfOk result (λ formula. formula
             ≡ governs_by C.condition_of self.now row.now rest.now) }
     {

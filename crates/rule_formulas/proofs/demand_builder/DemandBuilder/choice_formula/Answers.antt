@@ -1,5 +1,4 @@
-use Rattle.std.proofs.Common.{◌≡◌, sym, ap, ◌∙◌, true, false, if◌then◌else◌, Bool, List}
-use Rattle.clause_formulas.specs.Statements.{Statement}
+use Rattle.std.proofs.Common.{sym, ap, ◌∙◌, true, false, if◌then◌else◌, Bool, List}
 use Rattle.spec_grammar.specs.declared.part.Spec.{Spec}
 use Rattle.problem.specs.Problems.{world_of}
 use Rattle.graph_formulas.specs.Lists.{some, just_one}
@@ -21,7 +20,7 @@ returns-then-row g c =
     let b = c.specs-specs.result in
     let one = λ (xs : List Spec). rule_said path table (just_one (holds_rule world (names_for table) name) xs) in
     let choice = λ (both : Bool). if both then one row.specs
-        else rule_said path table (some (holds_rule world (names_for table) name) row.specs) in
+    else rule_said path table (some (holds_rule world (names_for table) name) row.specs) in
     ok-same c.one_formula.result
     (rule_said (path_by b.table.now b.paths.now) b.table.now
     (just_one (holds_rule b.world.now (names_for b.table.now) name) c.as_slice.result.now))
@@ -42,7 +41,7 @@ returns-else-row g c =
     let b = c.specs-specs.result in
     let any = λ (xs : List Spec). rule_said path table (some (holds_rule world (names_for table) name) xs) in
     let choice = λ (one : Bool). if one then rule_said path table (just_one (holds_rule world (names_for table) name) row.specs)
-        else any row.specs in
+    else any row.specs in
     ok-same c.some_formula.result
     (rule_said (path_by b.table.now b.paths.now) b.table.now
     (some (holds_rule b.world.now (names_for b.table.now) name) c.as_slice-else-row.result.now))
