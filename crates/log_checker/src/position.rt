@@ -7,11 +7,11 @@ ghost use Rattle.log_checker.specs.Steps.{unless, begun, is_first_line, may_stan
 ghost use Rattle.log_checker.specs.Known.{as_known, rival};
 ghost use Rattle.log_checker.specs.Blocks.{Fits, mark_of, back_to};
 
+use crate::inputs::copy_all;
 use crate::known::{Known, KnownList, bit_known, rival_known};
 use crate::lines::{bit_at, count_settled, derivation_fault, ids_fault, is_last};
 use crate::signs::Signs;
 use crate::step::Why;
-use crate::inputs::copy_all;
 use crate::store::Store;
 use clause_store::{ClauseList, Lit};
 use proof_log::Line;
