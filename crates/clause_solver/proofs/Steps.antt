@@ -252,6 +252,7 @@ module _ (w : WatchValue) (right : IsWatch w.vars w.clauses w.placed) (old m1 : 
         same = n ∙ g.same;
       }
 
+-- nothing was resolved yet
 pub IsResolving-start : (w : WatchValue) (m : List Bool) (chain : List ℕ) (end : ℕ) → IsResolving w m m chain chain end end
 IsResolving-start w m chain end = record {
   ids = [];

@@ -19,7 +19,7 @@ use Rattle.clause_solver.specs.Seen.{seen_at, AreSeen, AreClear, NoneSeen, IsLas
 use Rattle.clause_solver.specs.Learning.{Resolves, ResolvesDown, ReachesUip, IsResolving, DerivesRest}
 use Rattle.clause_watch.proofs.Places.{has-place, take-place, place-take}
 use Rattle.clause_solver.proofs.Resolving.{seen-derive, falsified-parts}
-use Rattle.clause_solver.proofs.Steps.{pass-decided, pass-resolved}
+use Rattle.clause_solver.proofs.Steps.{alone-from, has-reason, some-left, step-back, pass-decided, pass-resolved}
 
 -- the same, as the code of `resolve_to_first_uip` has it
 module _ (w : WatchValue) (right : IsWatch w.vars w.clauses w.placed) (old m1 : List Bool) (chain longer : List ℕ) (at : ℕ)
@@ -97,5 +97,3 @@ refuted w clear old new id end at longer c known unseen is_seen g none ps agree 
       | inr ge ↦ g.left q.0 q.1 ge lt there t
     ]) in
     ap (has stated) (sym (ap negation q.3 ∙ negation-twice l)) ∙ s))
-
--- nothing was resolved yet

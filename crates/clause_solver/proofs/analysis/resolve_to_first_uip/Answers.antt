@@ -1,7 +1,7 @@
 use Rattle.std.proofs.Common.{arith}
 use Rattle.clause_watch.proofs.Places.{place-within}
-use Rattle.clause_solver.proofs.Steps.{reason-known, code-left, code-back}
-use Rattle.clause_solver.proofs.StepsDone.{code-alone, code-reason}
+use Rattle.clause_solver.proofs.Steps.{reason-known}
+use Rattle.clause_solver.proofs.StepsDone.{code-alone, code-reason, code-left, code-back}
 use Rattle.clause_solver.proofs.analysis.resolve_to_first_uip.Goals as goal
 
 pub returns-then-at-p : goal.returns-then-at-p
