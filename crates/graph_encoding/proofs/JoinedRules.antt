@@ -10,8 +10,6 @@ use Rattle.graph_rules.specs.declared.rule.Rule.TheVariants as rules
 use Rattle.graph_levels.specs.Levels.{KeepsLevelRules}
 use Rattle.graph_encoding.specs.Formulas.{other_rules}
 
--- ---- the rules together
-
 pub rules-join : (problem : Problem) (g : Content) → keeps_all other_rules problem g ≡ true → KeepsLevelRules problem (λ d. true) g
     → keeps_all structure_rules problem g ≡ true
 rules-join problem g others kept =

@@ -1,12 +1,11 @@
 -- The stages of an encoding, joined.
--- ---- the rules together
 use Rattle.std.proofs.Common.{refl, sym, subst, Bool, true, ℕ, ◌≤◌, List, [], ◌∷◌, map, Option, arith}
 use Rattle.std.specs.List.{list_all}
 use Rattle.std.proofs.lemmas.Bool.{and_parts, and_from}
 use Rattle.clause_store.specs.declared.Lit.{Lit}
 use Rattle.clause_store.specs.declared.Label.TheVariants.{Structure}
 use Rattle.clause_store.specs.Clauses.{Clauses}
-use Rattle.clause_circuits.specs.Growth.{where_asked}
+use Rattle.clause_circuits.specs.Growth.{Says as ClausesSay, where_asked}
 use Rattle.clause_formulas.specs.declared.defined.Defined.{Defined}
 use Rattle.clause_formulas.specs.Statements.{Statement, eval, any_statement, SaidBelow}
 use Rattle.clause_formulas.specs.Drafts.{statement_at}
@@ -22,6 +21,7 @@ use Rattle.level_encoding.specs.Input.{LevelData}
 use Rattle.level_encoding.specs.Encoding.{paths_of}
 use Rattle.level_encoding.specs.Laws.{KeepsLevels}
 use Rattle.level_encoding.proofs.AssertedLaws.{assert_all-says}
+use Rattle.level_encoding.proofs.Told.{keeps as levels-keep}
 use Rattle.graph_core.specs.Graphs.{Text, Content}
 use Rattle.problem.specs.Nodes.{IsWellFormed}
 use Rattle.problem.specs.Problems.{Problem, root_names}
