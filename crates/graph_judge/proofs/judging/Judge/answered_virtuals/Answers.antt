@@ -9,6 +9,6 @@ pub returns : goal.returns
 unfolding answered_virtuals
 returns c =
     c.from_words.ensures.set
-    ∙ ap (with_texts []) (rw (c.depends_at-rows.ensures, c.as_str.ensures) at c.in_ok-names.ensures
+    ∙ ap (with_texts []) (rw (c.depends_at-rows.ensures, c.problem.ensures, c.as_str.ensures) at c.in_ok-names.ensures
     ∙ answered_are c.args.self.now.problem c.args.self.now.graph c.args.node.now c.args.child.now
     (depends_at c.args.self.now.problem c.args.node.now.name))
