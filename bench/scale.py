@@ -45,7 +45,7 @@ FAMILIES = [
     ("providers of one virtual", families.providers, 125, 1000, 9),
     ("providers, the last of a list", families.late_providers, 60, 1000, 5),
     ("virtuals times providers", families.virtuals, 20, 80, 12),
-    ("virtuals of one edge", families.edge_virtuals, 500, 8000, 4.5),
+    ("virtuals of one edge", families.edge_virtuals, 500, 8000, 2.5),
     ("versions", families.many_versions, 1250, 20000, 4),
     ("versions, conflicts of ranges", families.range_conflicts, 100, 1000, 12),
     ("directives", families.directives, 1000, 16000, 2.5),
