@@ -9,7 +9,7 @@ use Rattle.std.proofs.lemmas.Cmp.{nat_cmp_total}
 use Rattle.std.proofs.lemmas.Map.Keys.{ge_from_not_lt}
 use Rattle.graph_core.specs.Graphs.{Content}
 use Rattle.problem.specs.Problems.{Problem}
-use Rattle.graph_rules.specs.Costs.{criteria, smaller, vector}
+use Rattle.graph_rules.specs.Costs.{summed_cost, criteria, smaller, vector}
 use Rattle.cost_laws.specs.Words.{deprecated_builds}
 
 not-first : (o r : Ordering) → is_lt (ordering_then o r) ≡ false → is_lt o ≡ false
@@ -30,5 +30,5 @@ least-next (x ∷ xs) (y ∷ ys) (suc k) h same =
 
 -- the first number counts the deprecated nodes to build
 pub first-is : (problem : Problem) (graph : Content) → get_or (vector problem graph) 0 0 ≡ deprecated_builds problem graph
-unfolding vector criteria
+unfolding vector criteria summed_cost
 first-is problem graph = refl

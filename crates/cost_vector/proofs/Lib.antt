@@ -1,4 +1,5 @@
 pub mod RankLaws
 pub mod IndexLaws
 pub mod Totals
+pub mod Filled
 pub mod Halves

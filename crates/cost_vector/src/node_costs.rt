@@ -7,13 +7,13 @@ ghost use Rattle.graph_core.specs.Graphs.{node_of};
 ghost use Rattle.condition_rules.specs.Words.{is_one_text, is_some_and};
 ghost use Rattle.condition_rules.specs.Holds.{governing};
 ghost use Rattle.problem.specs.Problems.{same_compiler};
-ghost use Rattle.graph_rules.specs.Costs.{beside_default, is_root, missing, stopped};
-ghost use Rattle.cost_vector.specs.Terms.{beside, variant_cost, weight_at, differs, edge_differs};
+ghost use Rattle.graph_rules.specs.Costs.{beside_default, differs, is_root, missing, stopped};
+ghost use Rattle.cost_vector.specs.Terms.{beside, variant_cost, weight_at, edge_differs};
 
 use crate::provider_weight;
-use crate::terms::Attribute;
 use condition_rules::{Definitions, Paths, governing};
 use graph_core::{Compiler, Edge, Node};
+use graph_rules::Attribute;
 use plain_data::Word;
 use problem::{Explored, Problem, same_compiler};
 use recipe_data::VariantRow;

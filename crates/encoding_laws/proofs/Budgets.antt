@@ -3,7 +3,7 @@ use Rattle.std.proofs.Common.{◌≡◌, refl, ℕ, List}
 use Rattle.clause_store.specs.Clauses.{Clauses}
 use Rattle.clause_formulas.specs.declared.defined.Defined.{Defined}
 use Rattle.cost_terms.specs.Sums.{cost_terms}
-use Rattle.cost_terms.specs.Terms.{criteria_terms}
+use Rattle.cost_terms.specs.Terms.{criteria_terms, summed_terms}
 use Rattle.graph_core.specs.Graphs.{Text}
 use Rattle.graph_rules.specs.Kept.{external_node}
 use Rattle.graph_rules.specs.Weights.{is_deprecated, version_weight}
@@ -73,14 +73,16 @@ module _ (problem : Problem) (budget : ℕ) where
 
   same-ranks : (s : Clauses) (t : Table) (values : List Defined) (order : List Text)
       → rank_costs_on s other t values order ≡ rank_costs_on s problem t values order
-  unfolding rank_costs_on cost_terms criteria_terms version_weight is_deprecated package_entry_of
+  unfolding rank_costs_on cost_terms criteria_terms summed_terms version_weight is_deprecated package_entry_of
   same-ranks s t values order = refl
 
   -- ---- the whole
 
+  -- the budget changes no clause of the rules
   pub same-rules : rule_clauses other ≡ rule_clauses problem
   same-rules = λ i. same-clauses (same-closure i) i
 
+  -- nor any clause or bit of the encoding
   pub same-encoding : encoding_of other ≡ encoding_of problem
   unfolding encoding_of
   same-encoding = λ i.

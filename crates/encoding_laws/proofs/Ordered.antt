@@ -166,6 +166,7 @@ drafted_in : (s : Clauses) (label : Label) (d : ClauseDraft) → IsOrdered s →
 unfolding with_draft
 drafted_in s label d o = either_list d.always _ _ o (kept_in s label d.lits o)
 
+-- clauses stay in order where a formula, or its opposite, is asserted
 pub asserted : (label : Label) (s : Gated) (sign : Bool) (f : Statement) → IsOrdered s.list → IsOrdered (assert_in label s sign f).list
 asserted label s true (no f) o = asserted label s false f o
 asserted label s false (no f) o = asserted label s true f o
@@ -181,21 +182,26 @@ demanded : (s : Gated) (f : Statement) (id : ℕ) → IsOrdered s.list → IsOrd
 unfolding demand_in
 demanded s f id o = drafted_in (define_in s f).state.list (Demand id) (draft_with empty (define_in s f).answer) (defined s f o)
 
+-- where formulas are defined, one after another
 pub all_defined : (s : Gated) (fs : List Statement) → IsOrdered s.list → IsOrdered (define_all_in s fs).state.list
 all_defined s [] o = o
 all_defined s (f ∷ fs) o = all_defined (define_in s f).state fs (defined s f o)
 
+-- where formulas are demanded, one after another
 pub all_demanded : (s : Gated) (id : ℕ) (fs : List Statement) → IsOrdered s.list → IsOrdered (demand_all_in s id fs).list
 all_demanded s id [] o = o
 all_demanded s id (f ∷ fs) o = all_demanded (demand_in s f id) _ fs (demanded s f id o)
 
+-- where one is defined over clauses of which no gate is known
 pub defined_alone : (s : Clauses) (f : Statement) → IsOrdered s → IsOrdered (define_on s f).list
 unfolding define_on
 defined_alone s f o = defined (bare s) f o
 
+-- where one is asserted over such clauses
 pub asserted_alone : (label : Label) (s : Clauses) (sign : Bool) (f : Statement) → IsOrdered s → IsOrdered (assert_on label s sign f)
 asserted_alone label s sign f o = asserted label (bare s) sign f o
 
+-- where what is defined gets a literal of its own
 pub literal_made : (s : Clauses) (d : Defined) → IsOrdered s → IsOrdered (literal_on s d).list
 unfolding literal_on
 literal_made s (By l) o = o

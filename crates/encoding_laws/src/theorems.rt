@@ -19,8 +19,8 @@ use ranked_costs::{closure_laws, costs_laws, order_laws, plan_laws};
 /// So it is for each problem whose recipes are in order (`is_assembled`: each `Problem` is so) and
 /// whose externals and records have values for their variants (`has_right_values`: what is read has
 /// them); of the costs, within the limits of what is read. The budget of the settings changes no
-/// clause, no bit and no literal. Of each problem, each clause has its variables in rising order, each
-/// once, as a checker of logs asks.
+/// clause, no bit and no literal. Of each problem, each clause has its variables in rising order,
+/// each once, as a checker of logs asks.
 pub fn encoding_laws()
     ensures rules { (problem : Problem) → is_assembled problem ≡ true
         → has_right_values problem ≡ true → RulesDecode problem }

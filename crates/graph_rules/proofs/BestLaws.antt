@@ -8,7 +8,7 @@ use Rattle.graph_core.specs.Graphs.{Content}
 use Rattle.problem.specs.Nodes.{IsWellFormed}
 use Rattle.problem.specs.Problems.{with_budget, package_entry_of, Problem}
 use Rattle.graph_rules.specs.Weights.{version_weight, is_deprecated}
-use Rattle.graph_rules.specs.Costs.{other_values, unused_defaults, provider_weights, criteria, vector}
+use Rattle.graph_rules.specs.Costs.{other_values, unused_defaults, provider_weights, summed_cost, criteria, vector}
 use Rattle.graph_rules.specs.Optimal.{IsOptimal}
 
 tied : (a b : List ℕ) (o : Ordering) → slice_cmp nat_cmp a b ≡ o → is_lt o ≡ false → is_lt (ordering_reverse o) ≡ false → a ≡ b
@@ -27,5 +27,5 @@ one_vector problem a b g h best other =
 
 -- the budget changes no vector
 pub budget_vector : (problem : Problem) (budget : ℕ) (graph : Content) → vector (with_budget budget problem) graph ≡ vector problem graph
-unfolding vector criteria package_entry_of version_weight is_deprecated other_values unused_defaults provider_weights
+unfolding vector criteria summed_cost package_entry_of version_weight is_deprecated other_values unused_defaults provider_weights
 budget_vector problem budget graph = refl

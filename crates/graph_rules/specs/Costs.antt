@@ -11,6 +11,13 @@ use Rattle.graph_core.specs.declared.node.Node.{Node}
 use Rattle.condition_rules.specs.Holds.{governing}
 use Rattle.recipe_data.specs.declared.recipe.VariantRow.{VariantRow}
 use Rattle.problem.specs.Problems.{world_of, same_compiler, Problem}
+use Rattle.graph_rules.specs.declared.criterion.TheConstants.{CRITERIA}
+use Rattle.graph_rules.specs.declared.criterion.Attribute.{Attribute}
+use Rattle.graph_rules.specs.declared.criterion.Attribute.TheVariants as attributes
+use Rattle.graph_rules.specs.declared.criterion.Summed.{Summed}
+use Rattle.graph_rules.specs.declared.criterion.Summed.TheVariants as summands
+use Rattle.graph_rules.specs.declared.criterion.Criterion.{Criterion}
+use Rattle.graph_rules.specs.declared.criterion.Criterion.TheVariants as kinds
 use Rattle.graph_rules.specs.Weights.{version_weight, is_deprecated, os_weight, target_weight, compiler_weight, provider_weight}
 
 -- ---- what one node costs
@@ -64,25 +71,34 @@ at_root problem cost node = if is_root problem node then cost node else 0
 abbrev pub off_root : Problem → (Node → ℕ) → Node → ℕ
 off_root problem cost node = if is_root problem node then 0 else cost node
 
--- the fifteen criteria, each by what one node adds to it
+-- in what the ends of an edge may differ
+abbrev pub differs : Attribute → Node → Node → Bool
+differs attributes.Compiler a b = differ_in_compiler a b
+differs attributes.Os a b = differ_in_os a b
+differs attributes.Target a b = differ_in_target a b
+
+-- what a node adds to a sum over all nodes
+unfoldable pub summed_cost : Problem → Content → Summed → Node → ℕ
+summed_cost problem graph summands.Node node = 1
+summed_cost problem graph summands.Deprecated node = if is_deprecated problem node.name node.version then 1 else 0
+summed_cost problem graph summands.Version node = version_weight problem node.name node.version
+summed_cost problem graph summands.OtherValues node = other_values problem graph node
+summed_cost problem graph summands.UnusedDefaults node = unused_defaults problem graph node
+summed_cost problem graph summands.Providers node = provider_weights problem graph node
+summed_cost problem graph (summands.Edges attribute) node = edges_to (differs attribute) graph node
+summed_cost problem graph summands.Os node = os_weight problem node.os
+summed_cost problem graph summands.Target node = target_weight problem node.target
+summed_cost problem graph summands.Compiler node = compiler_weight problem node.compiler
+
+-- what one node adds to a criterion
+abbrev pub cost_of : Problem → Content → Criterion → Node → ℕ
+cost_of problem graph (kinds.All summed) node = summed_cost problem graph summed node
+cost_of problem graph (kinds.Roots summed) node = at_root problem (summed_cost problem graph summed) node
+cost_of problem graph (kinds.Others summed) node = off_root problem (summed_cost problem graph summed) node
+
+-- the criteria of the table, each by what one node adds to it
 unfoldable pub criteria : Problem → Content → List (Node → ℕ)
-criteria problem graph =
-    (λ node. if is_deprecated problem node.name node.version then 1 else 0)
-    ∷ at_root problem (λ node. version_weight problem node.name node.version)
-    ∷ at_root problem (other_values problem graph)
-    ∷ at_root problem (provider_weights problem graph)
-    ∷ at_root problem (unused_defaults problem graph)
-    ∷ off_root problem (other_values problem graph)
-    ∷ off_root problem (provider_weights problem graph)
-    ∷ edges_to differ_in_compiler graph
-    ∷ edges_to differ_in_os graph
-    ∷ (λ node. os_weight problem node.os)
-    ∷ off_root problem (λ node. version_weight problem node.name node.version)
-    ∷ off_root problem (unused_defaults problem graph)
-    ∷ (λ node. compiler_weight problem node.compiler)
-    ∷ edges_to differ_in_target graph
-    ∷ (λ node. target_weight problem node.target)
-    ∷ []
+criteria problem graph = map (cost_of problem graph) CRITERIA
 
 -- ---- the vector
 

@@ -11,9 +11,11 @@
 #![tactic(auto)]
 
 mod cost_order;
+mod criterion;
 mod rule;
 mod theorems;
 
 pub use cost_order::{vector_laws, weights_are_places};
+pub use criterion::{Attribute, CRITERIA, Criterion, NUMBERS, Summed};
 pub use rule::{Rule, Verdict};
 pub use theorems::{closure_laws, kept_laws, rule_laws, valid_laws, variant_laws};

@@ -10,7 +10,7 @@ use Rattle.graph_core.specs.Graphs.{Text, HasNode, no_content}
 use Rattle.graph_core.specs.declared.node.Edge.{Edge}
 use Rattle.graph_core.specs.declared.node.Node.{Node}
 use Rattle.graph_rules.specs.Built.{keeps_buildable, keeps_version, keeps_variant, keeps_compiler, keeps_machine, keeps_extra_edge}
-use Rattle.graph_rules.specs.Costs.{other_values, unused_defaults, provider_weights, criteria, vector, smaller}
+use Rattle.graph_rules.specs.Costs.{other_values, unused_defaults, provider_weights, summed_cost, criteria, vector, smaller}
 use Rattle.graph_rules.specs.Directives.{keeps_root}
 use Rattle.graph_rules.specs.Kept.{keeps_kept}
 use Rattle.graph_rules.specs.Optimal.{HasNoGraph, IsOptimal}
@@ -51,7 +51,7 @@ unfolding valid keeps keeps_root holds meets asked_node suits
 empty = refl
 
 pub less : smaller (vector worked (of_version (codes "2"))) (vector worked (of_version (codes "1"))) ≡ true
-unfolding vector criteria other_values unused_defaults provider_weights version_weight is_deprecated row_cmp package_entry_of recipe_of
+unfolding vector criteria summed_cost other_values unused_defaults provider_weights version_weight is_deprecated row_cmp package_entry_of recipe_of
     version_cmp stage_of staged pre_release release pieces word_of number_of rank_of is_same is_under item_contains items_overlap
     governing all_hold
 less = refl

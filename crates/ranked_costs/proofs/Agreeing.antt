@@ -1,8 +1,13 @@
 -- Formulas of conditions that agree at the names of a table make the same terms.
-use Rattle.std.proofs.Common.{◌≡◌, refl, sym, ap, ◌∙◌, Bool, true, false, List, [], ◌∷◌, ◌++◌, flat_map, Option, Some, None}
+use Rattle.std.proofs.Common.{◌≡◌, refl, sym, ap, ◌∙◌, Bool, true, false, List, [], ◌∷◌, ◌++◌, map, flat_map, Option, Some, None}
 use Rattle.std.specs.Prelude.{if◌then◌else◌}
 use Rattle.std.proofs.lemmas.List.Concat.{flat_map-cons}
 use Rattle.graph_core.specs.Graphs.{Text}
+use Rattle.graph_rules.specs.declared.criterion.TheConstants.{CRITERIA}
+use Rattle.graph_rules.specs.declared.criterion.Summed.{Summed}
+use Rattle.graph_rules.specs.declared.criterion.Summed.TheVariants as summands
+use Rattle.graph_rules.specs.declared.criterion.Criterion.{Criterion}
+use Rattle.graph_rules.specs.declared.criterion.Criterion.TheVariants as kinds
 use Rattle.problem.specs.Problems.{Problem, variants_at}
 use Rattle.literal_table.specs.Tables.{Table, block_of}
 use Rattle.literal_table.specs.Choices.{Choices}
@@ -10,7 +15,7 @@ use Rattle.literal_table.specs.declared.block.Block.{Block}
 use Rattle.cost_terms.specs.declared.weighted.Weighted.{Weighted}
 use Rattle.cost_terms.specs.Parts.{in_part}
 use Rattle.cost_terms.specs.Governing.{Row, with_formulas, variant_terms, other_terms, unused_terms}
-use Rattle.cost_terms.specs.Terms.{Held, is_root_name, at_root_terms, off_root_terms, over_variants_terms, other_values_terms, unused_defaults_terms, provider_terms, deprecated_terms, version_terms, os_terms, target_terms, compiler_terms, edges_terms, compilers_differ, os_differ, targets_differ, presence_terms, criteria_terms}
+use Rattle.cost_terms.specs.Terms.{Held, is_root_name, at_root_terms, off_root_terms, over_variants_terms, presence_terms, summed_terms, terms_of, criteria_terms}
 use Rattle.cost_terms.specs.Sums.{part_terms, number_terms, numbers_terms, cost_terms}
 
 module _ (problem : Problem) (table : Table) (order : List Text) (held other : Held)
@@ -45,28 +50,37 @@ module _ (problem : Problem) (table : Table) (order : List Text) (held other : H
   off-alike : (f g : Block → List Weighted) → Alike f g → Alike (off_root_terms problem f) (off_root_terms problem g)
   off-alike f g alike name b e = ap (λ ts. if is_root_name problem b.name then [] else ts) (alike name b e)
 
+  summed-alike : (summed : Summed) → Alike (summed_terms problem table held summed) (summed_terms problem table other summed)
+  unfolding summed_terms
+  summed-alike summands.Node name b e = refl
+  summed-alike summands.Deprecated name b e = refl
+  summed-alike summands.Version name b e = refl
+  summed-alike summands.OtherValues name b e = variants-alike other_terms name b e
+  summed-alike summands.UnusedDefaults name b e = variants-alike unused_terms name b e
+  summed-alike summands.Providers name b e = refl
+  summed-alike (summands.Edges attribute) name b e = refl
+  summed-alike summands.Os name b e = refl
+  summed-alike summands.Target name b e = refl
+  summed-alike summands.Compiler name b e = refl
+
+  criterion-alike : (criterion : Criterion) → Alike (terms_of problem table held criterion) (terms_of problem table other criterion)
+  criterion-alike (kinds.All summed) = summed-alike summed
+  criterion-alike (kinds.Roots summed) =
+      at-alike (summed_terms problem table held summed) (summed_terms problem table other summed) (summed-alike summed)
+  criterion-alike (kinds.Others summed) =
+      off-alike (summed_terms problem table held summed) (summed_terms problem table other summed) (summed-alike summed)
+
+  rows-alike : (built : Bool) (rows : List Criterion) → numbers_terms built table order (map (terms_of problem table held) rows)
+      ≡ numbers_terms built table order (map (terms_of problem table other) rows)
+  rows-alike built [] = refl
+  rows-alike built (row ∷ rows) = λ i.
+      number-alike built (terms_of problem table held row) (terms_of problem table other row) (criterion-alike row) i
+      ∷ rows-alike built rows i
+
   numbers-alike : (built : Bool) → numbers_terms built table order (criteria_terms problem table held)
       ≡ numbers_terms built table order (criteria_terms problem table other)
   unfolding criteria_terms
-  numbers-alike built =
-      let others = variants-alike other_terms in
-      let unused = variants-alike unused_terms in
-      let f = other_values_terms problem held in
-      let g = other_values_terms problem other in
-      let h = unused_defaults_terms problem held in
-      let k = unused_defaults_terms problem other in
-      let a = number-alike built (at_root_terms problem f) (at_root_terms problem g) (at-alike f g others) in
-      let b = number-alike built (at_root_terms problem h) (at_root_terms problem k) (at-alike h k unused) in
-      let c = number-alike built (off_root_terms problem f) (off_root_terms problem g) (off-alike f g others) in
-      let d = number-alike built (off_root_terms problem h) (off_root_terms problem k) (off-alike h k unused) in
-      let number = number_terms built table order in
-      λ i.
-      number (deprecated_terms problem) ∷ number (at_root_terms problem (version_terms problem)) ∷ a i
-      ∷ number (at_root_terms problem (provider_terms problem table)) ∷ b i ∷ c i
-      ∷ number (off_root_terms problem (provider_terms problem table))
-      ∷ number (edges_terms compilers_differ table) ∷ number (edges_terms os_differ table) ∷ number (os_terms problem)
-      ∷ number (off_root_terms problem (version_terms problem)) ∷ d i ∷ number (compiler_terms problem)
-      ∷ number (edges_terms targets_differ table) ∷ number (target_terms problem) ∷ []
+  numbers-alike built = rows-alike built CRITERIA
 
   -- formulas that agree at the table's names make the same terms
   pub same-terms : cost_terms problem table held order ≡ cost_terms problem table other order

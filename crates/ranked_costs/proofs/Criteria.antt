@@ -14,6 +14,13 @@ use Rattle.recipe_data.specs.declared.recipe.VariantRow.{VariantRow}
 use Rattle.condition_rules.specs.Words.{is_one_text}
 use Rattle.problem.specs.Problems.{Problem, variants_at}
 use Rattle.problem.specs.Closure.{possible_providers}
+use Rattle.graph_rules.specs.declared.criterion.TheConstants.{CRITERIA}
+use Rattle.graph_rules.specs.declared.criterion.Attribute.{Attribute}
+use Rattle.graph_rules.specs.declared.criterion.Attribute.TheVariants as attributes
+use Rattle.graph_rules.specs.declared.criterion.Summed.{Summed}
+use Rattle.graph_rules.specs.declared.criterion.Summed.TheVariants as summands
+use Rattle.graph_rules.specs.declared.criterion.Criterion.{Criterion}
+use Rattle.graph_rules.specs.declared.criterion.Criterion.TheVariants as kinds
 use Rattle.graph_rules.specs.Weights.{version_weight, is_deprecated, os_weight, target_weight, compiler_weight, provider_weight}
 use Rattle.possible_closure.proofs.Lists.{none_in_order, texts_in_order}
 use Rattle.table_plan.specs.Plans.{variant_names, variant_values, possible_at, asked_virtuals, possible_packages, plan_of}
@@ -24,7 +31,7 @@ use Rattle.cost_terms.specs.declared.weighted.Weighted.{Weighted}
 use Rattle.cost_terms.specs.Weighed.{top_said}
 use Rattle.cost_terms.specs.Differ.{is_any_text, is_some_compiler, same_compilers}
 use Rattle.cost_terms.specs.Governing.{Row, of_variant, other_terms, unused_terms, variant_terms}
-use Rattle.cost_terms.specs.Terms.{Held, is_root_name, at_root_terms, off_root_terms, presence_terms, deprecated_terms, version_terms, os_terms, target_terms, compiler_terms, rows_at, over_variants_terms, other_values_terms, unused_defaults_terms, virtual_terms, provider_terms, edges_terms, compilers_differ, os_differ, targets_differ, criteria_terms}
+use Rattle.cost_terms.specs.Terms.{Held, is_root_name, at_root_terms, off_root_terms, presence_terms, deprecated_terms, version_terms, os_terms, target_terms, compiler_terms, rows_at, over_variants_terms, other_values_terms, unused_defaults_terms, virtual_terms, provider_terms, edges_terms, compilers_differ, os_differ, targets_differ, compared, summed_terms, terms_of, criteria_terms}
 use Rattle.cost_terms.proofs.Lists.{sum-map, sum-flat}
 use Rattle.problem.specs.Limits.{set_members, most_names}
 use Rattle.ranked_costs.proofs.Sums.{sum-le-in, sum-same, once, shared}
@@ -223,54 +230,40 @@ module _ (problem : Problem) (limits : IsWithin problem) (names : List Text) (ri
 
   -- ---- all criteria
 
+  -- each of these lists is bounded at every block
   abbrev pub EachBounded : List (Block → List Weighted) → Type 0
   EachBounded [] = Unit {0}
   EachBounded (terms ∷ more) = Bounded terms × EachBounded more
 
+  compared-bounded : (attribute : Attribute) → Bounded (edges_terms (compared attribute) (Own problem names n))
+  compared-bounded attributes.Compiler =
+      edges compilers_differ (λ there a b. differ-top is_some_compiler same_compilers there a.compilers b.compilers)
+  compared-bounded attributes.Os = edges os_differ (λ there a b. differ-top is_any_text bytes_eq there a.os b.os)
+  compared-bounded attributes.Target = edges targets_differ (λ there a b. differ-top is_any_text bytes_eq there a.targets b.targets)
+
+  summed-bounded : (summed : Summed) → Bounded (summed_terms problem (Own problem names n) held summed)
+  unfolding summed_terms
+  summed-bounded summands.Node = presence
+  summed-bounded summands.Deprecated = deprecated
+  summed-bounded summands.Version = versions
+  summed-bounded summands.OtherValues = others
+  summed-bounded summands.UnusedDefaults = unused
+  summed-bounded summands.Providers = providers
+  summed-bounded (summands.Edges attribute) = compared-bounded attribute
+  summed-bounded summands.Os = systems
+  summed-bounded summands.Target = targets
+  summed-bounded summands.Compiler = compilers
+
+  criterion-bounded : (criterion : Criterion) → Bounded (terms_of problem (Own problem names n) held criterion)
+  criterion-bounded (kinds.All summed) = summed-bounded summed
+  criterion-bounded (kinds.Roots summed) = at-root (summed_terms problem (Own problem names n) held summed) (summed-bounded summed)
+  criterion-bounded (kinds.Others summed) = off-root (summed_terms problem (Own problem names n) held summed) (summed-bounded summed)
+
+  rows-bounded : (rows : List Criterion) → EachBounded (map (terms_of problem (Own problem names n) held) rows)
+  rows-bounded [] = tt
+  rows-bounded (row ∷ rows) = (criterion-bounded row, rows-bounded rows)
+
   -- each criterion is bounded
   pub criteria-bounded : EachBounded (criteria_terms problem (Own problem names n) held)
   unfolding criteria_terms
-  criteria-bounded =
-      let table = Own problem names n in (
-        deprecated,
-        (
-          at-root (version_terms problem) versions,
-          (
-            at-root (other_values_terms problem held) others,
-            (
-              at-root (provider_terms problem table) providers,
-              (
-                at-root (unused_defaults_terms problem held) unused,
-                (
-                  off-root (other_values_terms problem held) others,
-                  (
-                    off-root (provider_terms problem table) providers,
-                    (
-                      edges compilers_differ (λ there a b. differ-top is_some_compiler same_compilers there a.compilers b.compilers),
-                      (
-                        edges os_differ (λ there a b. differ-top is_any_text bytes_eq there a.os b.os),
-                        (
-                          systems,
-                          (
-                            off-root (version_terms problem) versions,
-                            (
-                              off-root (unused_defaults_terms problem held) unused,
-                              (
-                                compilers,
-                                (
-                                  edges targets_differ (λ there a b. differ-top is_any_text bytes_eq there a.targets b.targets),
-                                  (targets, tt),
-                                ),
-                              ),
-                            ),
-                          ),
-                        ),
-                      ),
-                    ),
-                  ),
-                ),
-              ),
-            ),
-          ),
-        ),
-      )
+  criteria-bounded = rows-bounded CRITERIA

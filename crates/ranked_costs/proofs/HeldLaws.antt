@@ -43,9 +43,11 @@ module _ (v : ℕ → Bool) (problem : Problem) (graph : Content) where
   abbrev tests : Text → List Condition → List Bool
   tests name conditions = map (λ when. all_hold (world_of problem) when graph name) conditions
 
+  -- whether the condition holds of the graph at the name
   abbrev pub tested : Text × Condition → Bool
   tested c = all_hold (world_of problem) c.1 graph c.0
 
+  -- each condition of the packages of these names, beside its name
   abbrev pub listed : List Text → List (Text × Condition)
   listed names = flat_map (λ name. map (λ when. (name, when)) (conditions_at problem name)) names
 

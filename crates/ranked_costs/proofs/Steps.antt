@@ -65,6 +65,7 @@ module _ (problem : Problem) (names : List Text) (place : Places) (order : List 
 
   module _ (new : Clauses) (bits : List Lit) (tops : List ℕ)
       (costs : AreCostBits (closure_clauses problem names place) new bits tops problem t held order) where
+    -- the sums that an assignment says
     abbrev pub sums : (ℕ → Bool) → List ℕ
     sums v = sums_said v (cost_terms problem t held order)
 

@@ -141,6 +141,7 @@ pairs-few names few =
     )
 
 module _ (problem : Problem) (names : List Text) (n : ℕ) where
+  -- the problem's own table over these names, whose literals begin at a number
   abbrev pub Own : Table
   Own = table_from n (plan_of problem names)
 

@@ -83,6 +83,7 @@ module _ (problem : Problem) (limits : IsWithin problem) where
       deprecated-few-cases true = omega arith
       deprecated-few-cases false = omega arith
 
+  -- a version's weight is at most the number of its package's versions, of which there are few
   pub version-few : (name version : Text) → version_weight problem name version ≤ 2 ^ 28
   unfolding version_weight
   version-few name version = version-few-cases (listed_in (package_entry_of problem name))
@@ -93,17 +94,21 @@ module _ (problem : Problem) (limits : IsWithin problem) where
       version-few-cases lists (Some row) =
           omega (arith, versions-few name, count_by-le-length (λ other. is_lt (row_cmp lists other row)) (versions_at problem name))
 
+  -- an operating system's is at most the number of those that the settings list
   pub os-few : (name : Text) → os_weight problem name ≤ 2 ^ 28
   os-few name = omega (arith, limits.settings, place-le (bytes_eq name) problem.settings.os)
 
+  -- so is a target's
   pub target-few : (name : Text) → target_weight problem name ≤ 2 ^ 28
   target-few name = omega (arith, limits.settings, place-le (λ entry. bytes_eq name entry.name) problem.settings.targets)
 
+  -- so is a compiler's, and nothing where there is none
   pub compiler-few : (compiler : Option Compiler) → compiler_weight problem compiler ≤ 2 ^ 28
   compiler-few None = omega arith
   compiler-few (Some compiler) =
       omega (arith, limits.settings, place-le (λ entry. same_compiler entry.compiler compiler) problem.settings.compilers)
 
+  -- a provider's is at most the number of those that the settings list for its virtual
   pub provider-few : (p : Text × Text) → provider_weight problem p ≤ 2 ^ 24
   provider-few p = provider-few-cases (find (λ q. bytes_eq q.0 p.0) problem.settings.providers) refl
     where

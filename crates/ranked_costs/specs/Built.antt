@@ -1,4 +1,5 @@
--- The clauses with the bits of costs, as a function of the clauses before; and where the numbers end among their bits.
+-- The clauses with the bits of costs, as a function of the clauses before; and where the numbers
+-- end among their bits.
 use Rattle.std.specs.Prelude.{ℕ, ◌+◌, ◌-◌, ◌^◌, List, [], ◌∷◌, min, nat_le, if◌then◌else◌}
 use Rattle.clause_store.specs.Clauses.{Clauses}
 use Rattle.clause_circuits.specs.Binary.{size}

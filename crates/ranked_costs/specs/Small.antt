@@ -18,7 +18,8 @@ use Rattle.cost_terms.specs.Sums.{cost_terms}
 abbrev pub are_small : List (List Weighted) → Bool
 are_small lists = list_all (λ terms. nat_lt (top_said terms) (2 ^ 63)) lists
 
--- within the limits, the terms of the 31 numbers are small over a problem's own table, whatever formulas its conditions have
+-- within the limits, the terms of the 31 numbers are small over a problem's own table, whatever
+-- formulas its conditions have
 abbrev pub LimitsKeepSmall : Type 0
 LimitsKeepSmall = (problem : Problem) (names : List Text) (n : ℕ) (held : Held) (order : List Text)
     → is_within_limits problem ≡ true → IsClosure problem names → length names ≤ most_names

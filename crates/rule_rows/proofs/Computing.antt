@@ -26,7 +26,7 @@ use Rattle.graph_rules.specs.Named.{answered_virtuals, named_graph}
 use Rattle.graph_rules.specs.Valid.{keeps, valid, keeps_demand, valid_for}
 use Rattle.graph_rules.specs.Verdict.{breaks_of, verdict_of}
 use Rattle.graph_rules.specs.Weights.{row_cmp, version_weight, is_deprecated}
-use Rattle.graph_rules.specs.Costs.{other_values, unused_defaults, provider_weights, criteria, vector}
+use Rattle.graph_rules.specs.Costs.{other_values, unused_defaults, provider_weights, summed_cost, criteria, vector}
 
 unfoldable pub computing : Unit {0}
 unfolding pieces word_of number_of rank_of stage_of staged pre_release release version_cmp is_same is_under item_contains items_overlap
@@ -36,5 +36,5 @@ unfolding pieces word_of number_of rank_of stage_of staged pre_release release v
     keeps_requirement same_attributes external_node installed_node keeps_kept keeps_provider keeps_used keeps_together keeps_no_cycle
     keeps_reachable keeps
     valid keeps_demand valid_for breaks_of verdict_of row_cmp version_weight is_deprecated other_values unused_defaults provider_weights
-    criteria vector answered_virtuals named_graph
+    summed_cost criteria vector answered_virtuals named_graph
 computing = tt

@@ -6,11 +6,12 @@ use Rattle.graph_core.specs.Graphs.{Text, Content}
 use Rattle.graph_core.specs.declared.node.Origin.TheVariants.{External}
 use Rattle.recipe_data.specs.declared.recipe.Recipe.{Recipe}
 use Rattle.problem.specs.Problems.{Problem}
+use Rattle.graph_rules.specs.declared.criterion.TheConstants.{NUMBERS}
 use Rattle.rule_rows.specs.Build.{named, spec, on, at, always, when, version, flag, to_build_and_link, to_run, depends_on, recipe, compiler, standard, problem, built, is_on, edge, edge_naming, dependency, graph, installed, kept}
 
 -- the vector with these values at these places, from 1, and 0 elsewhere
 abbrev pub vector_of : List (ℕ × ℕ) → List ℕ
-vector_of [] = replicate 31 0
+vector_of [] = replicate NUMBERS 0
 vector_of (p ∷ more) = slice_set (vector_of more) (p.0 - 1) p.1
 
 -- ---- hdf5 with mpich

@@ -21,7 +21,8 @@ use Rattle.run_task.specs.Tasks.{AcceptanceOf, CheckOf, HasSpecs, HasSpecsBy, Is
 use Rattle.run_task.specs.declared.task.Task.{Task}
 use Rattle.run_task.specs.declared.task.Task.TheVariants as tasks
 
--- the certificate shows that the graph of the lock file is best, where the desk tells its files still
+-- the certificate shows that the graph of the lock file is best, where the desk tells its files
+-- still
 pub best_lock : (between after : Option Files) (path : List ℕ) (problem : Problem) (costs numbers : List ℕ) (result : Result Task ReadStop)
     → StillTells between after → numbers ≡ costs → IfSome between (λ files. IsValidLock files path problem costs)
     → OnOk result (IfSome after (λ files. ShowsOf problem (Some numbers)))

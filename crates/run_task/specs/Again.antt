@@ -45,7 +45,8 @@ NothingIsAccepted = (problem : Problem) (budget : ℕ) (log : List Line) → IsA
 
 -- ---- each root by itself
 
--- the files at the paths are those of a best graph that was written: its log, and a lock file of which is said that it has the graph's costs
+-- the files at the paths are those of a best graph that was written: its log, and a lock file of
+-- which is said that it has the graph's costs
 pub record IsWrittenBest (files : Files) (lock cert : List ℕ) (problem : Problem) (budget : ℕ) (graph : Content)
     (log : List Line) : Type 0 where
   pub answer : IsAnswer problem budget (Best graph log)

@@ -19,7 +19,8 @@ MayBeSaid path (Err refusal) = IsOfCertificate path refusal
 
 -- ---- what is said of a certificate, as far as it is told
 
--- what may be said of the file at a path, as the certificate of a graph with these costs, or of none
+-- what may be said of the file at a path, as the certificate of a graph with these costs, or of
+-- none
 abbrev pub CertificateVerdicts : Type 1
 CertificateVerdicts = Files → List ℕ → Problem → Option (List ℕ) → Result (Unit {0}) Refusal → Type 0
 

@@ -47,7 +47,8 @@ verdict_on_text (BadLine line) = Err (refusals.BadCertificate line faults.BadLin
 abbrev pub most : ℕ
 most = 2 ^ 63 - 1
 
--- what is said of a text: its first 2^63 - 1 bytes count, and there may be more only where these decide already
+-- what is said of a text: its first 2^63 - 1 bytes count, and there may be more only where these
+-- decide already
 unfoldable pub said_of_text : CheckerState → List ℕ → Result (Unit {0}) Refusal
 said_of_text s text =
     if nat_le (length text) most || is_settled_by s (take most text) then verdict_on_text (answer_of s (take most text))
@@ -59,25 +60,28 @@ said_at files path s = do
   text ← or_refuse (refusals.MissingInput path) (get files path)
   said_of_text s text
 
--- a checker of logs that are to show that these costs of a graph are the least, over the encoding of the problem; of costs that no
--- bits spell, which no valid graph has, there is none. Without costs it is one of refutations of the rules
+-- a checker of logs that are to show that these costs of a graph are the least, over the encoding
+-- of the problem; of costs that no bits spell, which no valid graph has, there is none. Without
+-- costs it is one of refutations of the rules
 abbrev pub begun_for : Problem → Option (List ℕ) → Option CheckerState
 begun_for problem None = Some (begun (rule_clauses problem) [] None)
 begun_for problem (Some numbers) =
     let e = encoding_of problem in option_map (λ values. begun e.clauses e.bits.lits (Some values)) (bits_for e.bits.tops numbers)
 
--- what is said of the certificate at the path; costs that no bits spell are refused at its first line
+-- what is said of the certificate at the path; costs that no bits spell are refused at its first
+-- line
 unfoldable pub certified_at : Files → List ℕ → Problem → Option (List ℕ) → Result (Unit {0}) Refusal
 certified_at files path problem numbers = do
   s ← or_refuse (refusals.BadCertificate 1 faults.WrongBit) (begun_for problem numbers)
   said_at files path s
 
--- what is said by the log that the file holds: that it is right, where the log is a right one over the clauses of the problem, and else
--- the first refusal
+-- what is said by the log that the file holds: that it is right, where the log is a right one over
+-- the clauses of the problem, and else the first refusal
 abbrev pub log_verdict : CertificateVerdicts
 log_verdict files path problem numbers = Is (certified_at files path problem numbers)
 
--- what a right certificate shows: that a valid graph with these costs is optimal, or, without costs, that no graph is valid
+-- what a right certificate shows: that a valid graph with these costs is optimal, or, without
+-- costs, that no graph is valid
 abbrev pub ShowsOf : Problem → Option (List ℕ) → Type 0
 ShowsOf problem None = HasNoGraph problem
 ShowsOf problem (Some numbers) = (graph : Content) → IsWellFormed graph → valid problem graph ≡ true → vector problem graph ≡ numbers

@@ -27,7 +27,8 @@ LockIn bytes (Err refusal) = (f : LockFault) × IsLockFault bytes f × (f ≢ Ou
 abbrev pub LockAt : Files → List ℕ → Result Lock Refusal → Type 0
 LockAt files path = Then (Is (lock_bytes files path)) LockIn
 
--- the lock file, where each edge names its virtuals: in the format's first version none does, and they are found
+-- the lock file, where each edge names its virtuals: in the format's first version none does, and
+-- they are found
 unfoldable pub named_lock : Problem → Lock → Lock
 named_lock problem lock = if lock.version == 1 then record lock { graph = named_graph problem lock.graph } else lock
 

@@ -15,7 +15,8 @@ use Rattle.run_task.specs.Problems.{Problem, each_alone}
 use Rattle.run_task.specs.Shown.{AreBestLocks}
 use Rattle.run_task.specs.Verdicts.{Judges}
 
--- of a lock file and its certificate: the certificate behind the lock file, of whose graph the costs were said
+-- of a lock file and its certificate: the certificate behind the lock file, of whose graph the
+-- costs were said
 abbrev pub IsCheckPath : Option Files → List ℕ → List ℕ → Problem → List ℕ → Type 0
 IsCheckPath told lock cert problem path = (path ≡ lock) ⊎ ((path ≡ cert) × IsBehind told (λ files. Judges files lock problem))
 
@@ -27,8 +28,8 @@ pub record IsRootPath (told : Option Files) (dir : List ℕ) (problems : List Pr
   pub before : IfSome told (λ files. AreBestLocks files dir 0 (take root problems))
   pub inside : IsCheckPath told (lock_at dir root) (cert_at dir root) problem path
 
--- what is looked at over a problem: the lock file by `judge`, `check`, `fresh` and `plan`, the certificate by `check` and `refute`, and those
--- of all roots by `check_each`
+-- what is looked at over a problem: the lock file by `judge`, `check`, `fresh` and `plan`, the
+-- certificate by `check` and `refute`, and those of all roots by `check_each`
 abbrev pub IsKeptPath : Work → Option Files → Command → Problem → List ℕ → Type 0
 IsKeptPath works.Judge told command problem path = path ≡ command.lock
 IsKeptPath works.Check told command problem path = IsCheckPath told command.lock command.cert problem path

@@ -19,7 +19,8 @@ pub record IsOfRoots (dir : List ℕ) (count : ℕ) (path : List ℕ) : Type 0 w
   pub within : root < count
   pub is_path : (path ≡ lock_at dir root) ⊎ (path ≡ cert_at dir root)
 
--- the path is that of a file of one of the roots that the specs of a command are, in the folder that stands for its lock file
+-- the path is that of a file of one of the roots that the specs of a command are, in the folder
+-- that stands for its lock file
 pub record IsRootFile (command : Command) (path : List ℕ) : Type 0 where
   pub roots : List Spec
   pub read : RootsOf command.spec (Ok roots)

@@ -1,4 +1,5 @@
--- What the yes of `check`, of `check_each`, of `fresh` and of `refute` shows, and the no of `fresh`.
+-- What the yes of `check`, of `check_each`, of `fresh` and of `refute` shows, and the no of
+-- `fresh`.
 use Rattle.std.specs.Prelude.{◌≡◌, ℕ, ◌+◌, Bool, true, false, List, [], ◌∷◌, Ok}
 use Rattle.outside_desk.specs.Files.{Files}
 use Rattle.graph_core.specs.Graphs.{Content}
@@ -17,14 +18,15 @@ use Rattle.run_task.specs.Tasks.{files_for, is_search}
 use Rattle.run_task.specs.declared.task.Task.{Task}
 use Rattle.run_task.specs.declared.task.Task.TheVariants as tasks
 
--- the file at the path is a lock file of just the roots that are asked for, and its graph is valid, with these costs, and optimal
+-- the file at the path is a lock file of just the roots that are asked for, and its graph is valid,
+-- with these costs, and optimal
 pub record IsBestLock (files : Files) (path : List ℕ) (problem : Problem) : Type 0 where
   pub costs : List ℕ
   pub valid : IsValidLock files path problem costs
   pub optimal : IsOptimal problem valid.lock.graph
 
--- the file at the path is a lock file of just the roots that are asked for, and its graph is valid; but another graph is optimal, and
--- costs less
+-- the file at the path is a lock file of just the roots that are asked for, and its graph is valid;
+-- but another graph is optimal, and costs less
 pub record IsOutdoneLock (files : Files) (path : List ℕ) (problem : Problem) : Type 0 where
   pub costs : List ℕ
   pub valid : IsValidLock files path problem costs
@@ -56,8 +58,8 @@ abbrev pub ComparesLock : Files → List ℕ → Problem → Task → Type 0
 ComparesLock files path problem (tasks.Compare input numbers) = (input.problem ≡ problem) × IsValidLock files path problem numbers
 ComparesLock files path problem other = ⊥
 
--- what reading alone shows of a task: of `check`, `check_each` and `refute` all that their yes does, of `fresh` that the lock file is right and has
--- the costs that are to be compared
+-- what reading alone shows of a task: of `check`, `check_each` and `refute` all that their yes
+-- does, of `fresh` that the lock file is right and has the costs that are to be compared
 abbrev pub SeenBy : Work → Task → Files → Command → Problem → Type 0
 SeenBy works.Check task files command problem = IsBestLock files command.lock problem
 SeenBy works.Refute task files command problem = HasNoGraph problem

@@ -71,15 +71,17 @@ module _ (verdicts : CertificateVerdicts) where
   abbrev pub CheckOf : Files → List ℕ → List ℕ → Problem → Result Task Refusal → Type 0
   CheckOf files lock cert problem = Then (Judges files lock problem) (λ numbers. AcceptanceOf files cert problem (Some numbers))
 
-  -- of the lock files and the certificates of problems apart, whose files have numbers from this one on: the first problem of which
-  -- one is refused gives the refusal, which says its number
+  -- of the lock files and the certificates of problems apart, whose files have numbers from this
+  -- one on: the first problem of which one is refused gives the refusal, which says its number
   abbrev pub ChecksOf : Files → List ℕ → ℕ → List Problem → Result Task Refusal → Type 0
   ChecksOf files dir root [] = Is (Ok tasks.Accepted)
   ChecksOf files dir root (problem ∷ more) =
       Then (InRoot root (CheckOf files (lock_at dir root) (cert_at dir root) problem)) (λ done. ChecksOf files dir (root + 1) more)
 
-  -- a command's own work over what was read: `concretize`, `each`, `explain`, `reasons` and `trial` have a problem to solve, `judge` says what is
-  -- said of the lock file, `check` and `refute` of the certificate; `fresh` and `plan` do as `judge` first, and `check_each` as `check` for each root by itself
+  -- a command's own work over what was read: `concretize`, `each`, `explain`, `reasons` and `trial`
+  -- have a problem to solve, `judge` says what is said of the lock file, `check` and `refute` of
+  -- the certificate; `fresh` and `plan` do as `judge` first, and `check_each` as `check` for each
+  -- root by itself
   abbrev pub TaskBy : Work → Files → Command → Input → Result Task Refusal → Type 0
   TaskBy works.Concretize files command input = Is (Ok (tasks.Solve input))
   TaskBy works.Judge files command input = ReportOf files command.lock input.problem
@@ -94,7 +96,8 @@ module _ (verdicts : CertificateVerdicts) where
   TaskBy works.Find files command input = λ posed. ⊥
   TaskBy (works.Trial packages seed) files command input = Is (Ok (tasks.Try input))
 
-  -- what is read over these files is one for all commands that pose a problem, and then comes the command's own work
+  -- what is read over these files is one for all commands that pose a problem, and then comes the
+  -- command's own work
   abbrev pub OverUnless : Bool → Files → Command → Result Task Refusal → Type 0
   OverUnless true files command = Then (Seeks files command) (λ query. Is (Ok (tasks.Find query)))
   OverUnless false files command = Then (ReadsInput files command) (TaskBy command.work files command)
@@ -126,13 +129,13 @@ IsOf works.CheckEach tasks.Accepted = Unit {0}
 IsOf (works.Trial packages seed) (tasks.Try input) = Unit {0}
 IsOf other task = ⊥
 
--- the canonical texts of the roots that are to be written are UTF-8, as those of all specs which were read, and the problem is what
--- each one is that is read
+-- the canonical texts of the roots that are to be written are UTF-8, as those of all specs which
+-- were read, and the problem is what each one is that is read
 abbrev pub IsReadyInput : Input → Type 0
 IsReadyInput input = All (λ spec. IsUtf8 (spec_text spec)) input.problem.roots × IsPosed input
 
--- what each task is: a problem that is searched is ready, some valid graph has the costs that are compared, and a graph that is put in
--- order has no cycle
+-- what each task is: a problem that is searched is ready, some valid graph has the costs that are
+-- compared, and a graph that is put in order has no cycle
 abbrev pub IsReady : Task → Type 0
 IsReady (tasks.Solve input) = IsReadyInput input
 IsReady (tasks.Each input) = IsReadyInput input

@@ -37,7 +37,8 @@ judged problem lock = do
 abbrev pub Judges : Files → List ℕ → Problem → Result (List ℕ) Refusal → Type 0
 Judges files path problem = Then (NamedAt files path problem) (λ lock. Is (judged problem lock))
 
--- a lock file is one of just the roots that are asked for, and its graph is valid and has these costs
+-- a lock file is one of just the roots that are asked for, and its graph is valid and has these
+-- costs
 pub record IsRight (problem : Problem) (lock : Lock) (numbers : List ℕ) : Type 0 where
   pub roots : are_roots_of lock.hashes problem.roots lock.roots ≡ true
   pub well_formed : IsWellFormed lock.graph

@@ -16,6 +16,7 @@ ghost use Rattle.run_input.specs.Roots.{RootsOf};
 use crate::each_check::read_each_check;
 use crate::looks::{read_acceptance, read_check, read_comparison, read_plan, read_report};
 use graph_core::Graph;
+use graph_rules::NUMBERS;
 use outside_desk::Desk;
 use run_input::{Command, Input, Query, ReadStop, Work, read_input, read_query};
 use spec_grammar::{reading_laws, writing_laws};
@@ -29,7 +30,7 @@ pub enum Task {
     /// The best graph of the problem is to be found.
     Solve(Input),
     /// The lock file's graph is valid, and has this cost vector.
-    Report([u64; 31]),
+    Report([u64; NUMBERS]),
     /// The certificate is right.
     Accepted,
     /// The best graph of each root by itself is to be found.
@@ -43,7 +44,7 @@ pub enum Task {
     Try(Input),
     /// The lock file's graph is valid and has this cost vector: it is to be said whether a valid
     /// graph costs less.
-    Compare(Input, [u64; 31]),
+    Compare(Input, [u64; NUMBERS]),
     /// The installed packages that meet a condition are to be found.
     Find(Query),
     /// The graph is that of the lock file, and valid: it is to be said in which order it can be

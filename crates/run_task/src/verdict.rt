@@ -16,7 +16,7 @@ use crate::whole::whole;
 use cost_vector::vector;
 use graph_core::Graph;
 use graph_judge::judge;
-use graph_rules::{Verdict, rule_laws};
+use graph_rules::{NUMBERS, Verdict, rule_laws};
 use lockfile::Lock;
 use outside_desk::Desk;
 use problem::Problem;
@@ -40,7 +40,7 @@ fn check_rules(alloc: Global, problem: &Problem, graph: &Graph) -> Result<(), Re
 
 /// The rules, and then the cost vector.
 #[tactic(auto, unfolding(crate::specs::Verdicts::weighed))]
-fn weighed(alloc: Global, problem: &Problem, graph: &Graph) -> Result<[u64; 31], ReadStop>
+fn weighed(alloc: Global, problem: &Problem, graph: &Graph) -> Result<[u64; NUMBERS], ReadStop>
     ensures read { Gives result (Is (weighed problem.now graph.now)) }
     ensures no_fault { EndsInReadFault result → ⊥ }
 {
@@ -50,7 +50,7 @@ fn weighed(alloc: Global, problem: &Problem, graph: &Graph) -> Result<[u64; 31],
 
 /// The roots, and then the graph.
 #[tactic(auto, unfolding(crate::specs::Verdicts::judged))]
-fn judged(alloc: Global, problem: &Problem, lock: &Lock) -> Result<[u64; 31], ReadStop>
+fn judged(alloc: Global, problem: &Problem, lock: &Lock) -> Result<[u64; NUMBERS], ReadStop>
     ensures read { Gives result (Is (judged problem.now lock.now)) }
     ensures no_fault { EndsInReadFault result → ⊥ }
 {
@@ -62,7 +62,7 @@ fn judged(alloc: Global, problem: &Problem, lock: &Lock) -> Result<[u64; 31], Re
 }
 
 /// The roots, and then the graph, which is well-formed as every value of its type.
-fn judge_lock(alloc: Global, problem: &Problem, lock: &Lock) -> Result<[u64; 31], ReadStop>
+fn judge_lock(alloc: Global, problem: &Problem, lock: &Lock) -> Result<[u64; NUMBERS], ReadStop>
     ensures read { Gives result (Is (judged problem.now lock.now)) }
     ensures right { IfOk result (λ numbers. IsRight problem.now lock.now numbers) }
     ensures no_fault { EndsInReadFault result → ⊥ }
@@ -83,7 +83,7 @@ pub fn read_verdict<D: Desk>(
     desk: &mut D,
     path: &str,
     problem: &Problem,
-) -> Result<[u64; 31], ReadStop>
+) -> Result<[u64; NUMBERS], ReadStop>
     ensures read { IfSome (D.files desk.new)
         (λ files. Gives result (Judges files path.now problem.now)) }
     ensures lock { IfOk result (λ numbers. IfSome (D.files desk.new)

@@ -1,4 +1,4 @@
--- The criteria as data are the criteria.
+-- The lists of the table's criteria, one after another.
 use Rattle.std.proofs.Common.{◌≡◌, sym, ap, ◌∙◌, Bool, true, false, ℕ, ◌+◌, ◌<◌, List, [], ◌∷◌, ◌++◌, map, drop, get_or, length, append_assoc}
 use Rattle.std.proofs.lemmas.List.{drop_more}
 use Rattle.graph_core.specs.Graphs.{Text}
@@ -10,14 +10,14 @@ use Rattle.literal_table.specs.declared.block.Block.{Block}
 use Rattle.problem.specs.Problems.{variants_at}
 use Rattle.std.specs.Prelude.{flat_map}
 use Rattle.cost_terms.specs.Governing.{with_formulas, variant_terms}
-use Rattle.cost_terms.specs.Terms.{Held, criteria_terms, over_variants_terms}
+use Rattle.cost_terms.specs.Terms.{Held, terms_of, summed_terms, criteria_terms, over_variants_terms}
 use Rattle.cost_terms.specs.Sums.{number_terms, cost_terms}
 use Rattle.term_builder.specs.declared.variant_terms.Counted.{Counted}
 use Rattle.term_builder.specs.VariantTerms.{counted_terms}
-use Rattle.term_builder.specs.declared.criteria.Criterion.{Criterion}
-use Rattle.term_builder.specs.declared.criteria.Summed.TheVariants as summands
-use Rattle.term_builder.specs.declared.criteria.Place.TheVariants as places
-use Rattle.term_builder.specs.Criteria.{summed_terms, criterion_terms, criteria}
+use Rattle.graph_rules.specs.declared.criterion.TheConstants.{CRITERIA}
+use Rattle.graph_rules.specs.declared.criterion.Criterion.{Criterion}
+use Rattle.graph_rules.specs.declared.criterion.Criterion.TheVariants as kinds
+use Rattle.graph_rules.specs.declared.criterion.Summed.TheVariants as summands
 
 -- one list more
 pub pushed : {X : Type 0} (f : X → List Weighted) (xs : List X) (i : ℕ) (d : X) (made given : List Weighted)
@@ -37,15 +37,15 @@ variants-are which problem held b fs here =
 
 module _ (problem : Problem) (table : Table) (held : Held) (order : List Text) where
   abbrev pub number : Bool → Criterion → List Weighted
-  number built c = number_terms built table order (criterion_terms problem table held c)
+  number built c = number_terms built table order (terms_of problem table held c)
 
   -- the numbers of the criteria, of the nodes to build, and of the criteria again are all
-  pub assembled : (start one two all : List (List Weighted)) (each node : List Criterion) → start ≡ [] → each ≡ criteria
-      → node ≡ record { place = places.Anywhere; summed = summands.Node } ∷ [] → one ≡ start ++ map (number true) each
-      → two ≡ one ++ map (number true) node → all ≡ two ++ map (number false) each → all ≡ cost_terms problem table held order
+  pub assembled : (start one two all : List (List Weighted)) → start ≡ [] → one ≡ start ++ map (number true) CRITERIA
+      → two ≡ one ++ map (number true) (kinds.All summands.Node ∷ []) → all ≡ two ++ map (number false) CRITERIA
+      → all ≡ cost_terms problem table held order
   unfolding cost_terms criteria_terms summed_terms
-  assembled start one two all each node s e n a b c =
-      let first : one ≡ map (number true) criteria = a ∙ λ i. s i ++ map (number true) (e i) in
-      let more : two ≡ map (number true) criteria ++ map (number true) (record { place = places.Anywhere; summed = summands.Node } ∷ [])
-      = b ∙ λ i. first i ++ map (number true) (n i) in
-      c ∙ λ i. more i ++ map (number false) (e i)
+  assembled start one two all s a b c =
+      let first : one ≡ map (number true) CRITERIA = a ∙ ap (λ lists. lists ++ map (number true) CRITERIA) s in
+      let more : two ≡ map (number true) CRITERIA ++ map (number true) (kinds.All summands.Node ∷ [])
+      = b ∙ ap (λ lists. lists ++ map (number true) (kinds.All summands.Node ∷ [])) first in
+      c ∙ ap (λ lists. lists ++ map (number false) CRITERIA) more

@@ -22,7 +22,8 @@ run-is variant held index run found is =
     ∙ ap (map (λ (e : Text × Held). e.1)) found ∙ is variant)
     ∙ sym (filter_mapped row_said (λ (r : Row). bytes_eq r.0.name variant) held)
 
--- a condition that holds, and none of the later definitions' that was gathered, is the formula that governs
+-- a condition that holds, and none of the later definitions' that was gathered, is the formula that
+-- governs
 pub governs-is : (f said none : Statement) (later : List Row) (start parts : List Statement) → said ≡ f
     → start ≡ [] → parts ≡ start ++ formulas_of later → none ≡ none_among parts → both_statements said none ≡ governs f later
 governs-is f said none later start parts s z p n =

@@ -1,14 +1,14 @@
 //! The lists of all criteria.
 ghost use Rattle.std.specs.Prelude.{◌≡◌, ◌++◌, ◌∷◌, [], true, false, map, IfOk, OnOk};
 ghost use Rattle.literal_table.specs.Tables.{block_of};
+ghost use Rattle.cost_terms.specs.Terms.{terms_of};
 ghost use Rattle.cost_terms.specs.Sums.{part_terms, number_terms, cost_terms};
 ghost use Rattle.term_builder.specs.Held.{held_in};
-ghost use Rattle.term_builder.specs.Criteria.{criterion_terms};
 
 use crate::blocks::criterion_terms;
-use crate::criteria::{Criterion, Summed, anywhere, criteria};
 use clause_formulas::Defined;
 use cost_terms::{Weighted, in_part};
+use graph_rules::{CRITERIA, Criterion, Summed};
 use literal_table::LiteralTable;
 use plain_data::{List, Word};
 use problem::Problem;
@@ -35,7 +35,7 @@ fn push_part(
     name: &str,
 ) -> Result<(), AllocError>
     ensures { OnOk result (terms.new.items ≡ terms.old.items
-        ++ part_terms built (criterion_terms problem.now table.now (held_in held.now) criterion)
+        ++ part_terms built (terms_of problem.now table.now (held_in held.now) criterion)
         (block_of table.now name.now)) }
 {
     match table.block(name) {
@@ -59,7 +59,7 @@ fn number_terms(
     order: &[Word],
 ) -> Result<Vec<Weighted>, AllocError>
     ensures { IfOk result (λ terms. terms.items ≡ number_terms built table.now order.now
-        (criterion_terms problem.now table.now (held_in held.now) criterion)) }
+        (terms_of problem.now table.now (held_in held.now) criterion)) }
 {
     let mut terms = Vec::new(alloc);
     for name in order {
@@ -84,7 +84,7 @@ fn push_numbers(
 ) -> Result<(), AllocError>
     ensures { OnOk result (lists.new.items ≡ lists.old.items
         ++ map (λ criterion. number_terms built table.now order.now
-        (criterion_terms problem.now table.now (held_in held.now) criterion)) criteria.now) }
+        (terms_of problem.now table.now (held_in held.now) criterion)) criteria.now) }
 {
     for criterion in criteria {
         let terms = number_terms(alloc, built, *criterion, problem, table, held, order)?;
@@ -109,10 +109,13 @@ pub fn cost_terms(
         ≡ cost_terms problem.now table.now (held_in held.now) order.now) }
 {
     let mut lists = Vec::new(alloc);
-    let each = criteria();
-    let node = [anywhere(Summed::Node)];
-    push_numbers(alloc, &mut lists, true, &each, problem, table, held, order)?;
+    let node = [Criterion::All(Summed::Node)];
+    push_numbers(
+        alloc, &mut lists, true, &CRITERIA, problem, table, held, order,
+    )?;
     push_numbers(alloc, &mut lists, true, &node, problem, table, held, order)?;
-    push_numbers(alloc, &mut lists, false, &each, problem, table, held, order)?;
+    push_numbers(
+        alloc, &mut lists, false, &CRITERIA, problem, table, held, order,
+    )?;
     Ok(lists)
 }

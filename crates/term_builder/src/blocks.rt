@@ -2,19 +2,18 @@
 ghost use Rattle.std.specs.Prelude.{◌≡◌, IfOk};
 ghost use Rattle.std.specs.Str.{bytes_eq};
 ghost use Rattle.condition_rules.specs.Words.{is_some_and};
-ghost use Rattle.cost_terms.specs.Terms.{is_root_name, presence_terms, provider_terms, edges_terms, over_variants_terms};
-ghost use Rattle.term_builder.specs.EdgeTerms.{compared};
+ghost use Rattle.cost_terms.specs.Terms.{is_root_name, presence_terms, provider_terms, compared, edges_terms};
+ghost use Rattle.cost_terms.specs.Terms.{over_variants_terms, summed_terms, terms_of};
 ghost use Rattle.term_builder.specs.VariantTerms.{counted_terms};
 ghost use Rattle.term_builder.specs.Held.{held_in};
-ghost use Rattle.term_builder.specs.Criteria.{summed_terms, criterion_terms};
 
-use crate::criteria::{Criterion, Place, Summed};
 use crate::held::conditions_at;
-use crate::{Attribute, Counted, push_edges, push_providers, push_variants};
+use crate::{Counted, push_edges, push_providers, push_variants};
 use clause_formulas::{Defined, Formula};
 use cost_terms::{
     Weighted, compiler_terms, deprecated_terms, os_terms, target_terms, version_terms,
 };
+use graph_rules::{Attribute, Criterion, Summed};
 use literal_table::{Block, LiteralTable};
 use plain_data::{List, Word};
 use problem::Problem;
@@ -98,7 +97,7 @@ fn edge_terms(
 }
 
 // What the node adds to one sum, wherever it stands.
-#[tactic(auto, unfolding(crate::specs::Criteria::summed_terms))]
+#[tactic(auto, unfolding(cost_terms::specs::Terms::summed_terms))]
 fn summed_terms(
     alloc: Global,
     summed: Summed,
@@ -108,7 +107,7 @@ fn summed_terms(
     block: &Block,
 ) -> Result<Vec<Weighted>, AllocError>
     ensures { IfOk result (λ terms. terms.items
-        ≡ summed_terms summed problem.now table.now (held_in held.now) block.now) }
+        ≡ summed_terms problem.now table.now (held_in held.now) summed block.now) }
 {
     match summed {
         Summed::Node => presence_terms(alloc, block),
@@ -134,19 +133,18 @@ pub(crate) fn criterion_terms(
     block: &Block,
 ) -> Result<Vec<Weighted>, AllocError>
     ensures { IfOk result (λ terms. terms.items
-        ≡ criterion_terms problem.now table.now (held_in held.now) criterion block.now) }
+        ≡ terms_of problem.now table.now (held_in held.now) criterion block.now) }
 {
-    let summed = criterion.summed;
-    match criterion.place {
-        Place::Anywhere => summed_terms(alloc, summed, problem, table, held, block),
-        Place::AtRoots => {
+    match criterion {
+        Criterion::All(summed) => summed_terms(alloc, summed, problem, table, held, block),
+        Criterion::Roots(summed) => {
             if is_root_name(problem, block.name.as_str()) {
                 summed_terms(alloc, summed, problem, table, held, block)
             } else {
                 Ok(Vec::new(alloc))
             }
         }
-        Place::OffRoots => {
+        Criterion::Others(summed) => {
             if is_root_name(problem, block.name.as_str()) {
                 Ok(Vec::new(alloc))
             } else {

@@ -1,21 +1,13 @@
 //! The terms of edges whose ends differ.
 ghost use Rattle.std.specs.Prelude.{◌≡◌, ◌++◌, OnOk};
-ghost use Rattle.cost_terms.specs.Terms.{child_terms, edge_terms, edges_terms};
-ghost use Rattle.term_builder.specs.EdgeTerms.{compared};
+ghost use Rattle.cost_terms.specs.Terms.{child_terms, compared, edge_terms, edges_terms};
 
 use crate::{push_compilers_differ, push_texts_differ};
 use clause_formulas::Formula;
 use cost_terms::Weighted;
+use graph_rules::Attribute;
 use literal_table::{Block, EdgeLits, LiteralTable, edge_there};
 use std::alloc::{AllocError, Global};
-
-/// What is compared at the ends of an edge.
-#[derive(Clone, Copy)]
-pub enum Attribute {
-    Compiler,
-    Os,
-    Target,
-}
 
 // One where the edge is there and the attribute differs at its ends.
 fn push_compared(

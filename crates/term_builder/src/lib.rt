@@ -12,7 +12,6 @@
 
 mod assembly;
 mod blocks;
-mod criteria;
 mod definitions;
 mod difference_terms;
 mod edge_terms;
@@ -23,6 +22,6 @@ mod variant_terms;
 
 pub use assembly::cost_terms;
 pub use difference_terms::{push_compilers_differ, push_texts_differ};
-pub use edge_terms::{Attribute, push_edges};
+pub use edge_terms::push_edges;
 pub use provider_terms::push_providers;
 pub use variant_terms::{Counted, push_variants};

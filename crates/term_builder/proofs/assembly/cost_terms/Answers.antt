@@ -1,4 +1,3 @@
-use Rattle.std.proofs.Common.{[], ◌∷◌}
 use Rattle.term_builder.specs.Held.{held_in}
 use Rattle.term_builder.proofs.Assembled.{assembled}
 use Rattle.term_builder.proofs.assembly.cost_terms.Goals as goal
@@ -6,8 +5,5 @@ use Rattle.term_builder.proofs.assembly.cost_terms.Goals as goal
 pub returns : goal.returns
 returns c =
     assembled c.args.problem.now c.args.table.now (held_in c.args.held.now) c.args.order.now c.new-lists.result.items
-    c.push_numbers.new.lists.items
-    c.push_numbers-2.new.lists.items c.push_numbers-3.new.lists.items c.criteria-each.result (c.anywhere.result ∷ [])
-    c.new-lists.ensures.items
-    c.criteria-each.ensures (λ i. c.anywhere.ensures i ∷ []) c.in_ok-push_numbers.ensures c.in_ok-push_numbers-2.ensures
-    c.in_ok-push_numbers-3.ensures
+    c.push_numbers.new.lists.items c.push_numbers-2.new.lists.items c.push_numbers-3.new.lists.items c.new-lists.ensures.items
+    c.in_ok-push_numbers.ensures c.in_ok-push_numbers-2.ensures c.in_ok-push_numbers-3.ensures

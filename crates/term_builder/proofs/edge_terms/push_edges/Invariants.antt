@@ -1,6 +1,6 @@
 use Rattle.std.proofs.Common.{◌≡◌, ◌++◌, flat_map, drop}
 use Rattle.cost_terms.specs.Terms.{edge_terms}
-use Rattle.term_builder.specs.EdgeTerms.{compared}
+use Rattle.cost_terms.specs.Terms.{compared}
 use Rattle.term_builder.proofs.edge_terms.push_edges.Given as goal
 
 abbrev pub invariant-loop-edge : goal.invariant-loop-edge

@@ -1,12 +1,12 @@
 use Rattle.cost_vector.proofs.Halves.{other_term, unused_term, provider_term}
-use Rattle.cost_vector.proofs.terms.term_cost.Goals as goal
+use Rattle.cost_vector.proofs.terms.summed_cost.Goals as goal
 
 pub returns-in-OtherValues : goal.returns-in-OtherValues
 returns-in-OtherValues c =
     rw (
       c.as_str-name.ensures,
       c.as_slice-variants.ensures,
-      other_term c.args.added c.args.problem.now c.args.graph.now c.args.node.now
+      other_term c.args.summed c.args.problem.now c.args.graph.now c.args.node.now
           c.in-OtherValues.is,
     ) at c.over_variants.ensures
 
@@ -15,7 +15,7 @@ returns-in-UnusedDefaults c =
     rw (
       c.as_str-name.ensures,
       c.as_slice-variants.ensures,
-      unused_term c.args.added c.args.problem.now c.args.graph.now c.args.node.now
+      unused_term c.args.summed c.args.problem.now c.args.graph.now c.args.node.now
           c.in-UnusedDefaults.is,
     ) at c.over_variants-in-UnusedDefaults.ensures
 
@@ -25,6 +25,6 @@ returns-in-Providers c =
       c.as_str-name.ensures,
       c.providers.ensures.providers,
       c.graph.ensures,
-      provider_term c.args.added c.args.problem.now
+      provider_term c.args.summed c.args.problem.now
           c.args.graph.now c.args.node.now c.in-Providers.is,
     ) at c.provider_weights.ensures
