@@ -19,9 +19,7 @@ use problem::same_compiler;
 use reuse_db::Record;
 use std::alloc::{AllocError, Global};
 use variant_values::ValueSet;
-use word_formulas::{
-    compiler_passes, given, os_passes, prefix_passes, target_passes, version_passes,
-};
+use word_formulas::Scribe;
 
 fn version_is(
     alloc: Global,
@@ -32,7 +30,7 @@ fn version_is(
     ensures { IfOk result (λ formula. formula
         ≡ node_said table.now name.now (has_version (λ version. bytes_eq version text.now))) }
 {
-    version_passes(alloc, table, name, |version| version.text() == text)
+    Scribe { alloc, table }.version_passes(name, |version| version.text() == text)
 }
 
 fn same_compilers(a: &Option<Compiler>, b: &Option<Compiler>) -> bool
@@ -54,14 +52,14 @@ fn compiler_is(
     ensures { IfOk result (λ formula. formula ≡ node_said table.now name.now
         (has_compiler (λ own. option_eq same_compiler own compiler.now))) }
 {
-    compiler_passes(alloc, table, name, |own| same_compilers(own, compiler))
+    Scribe { alloc, table }.compiler_passes(name, |own| same_compilers(own, compiler))
 }
 
 fn os_is(alloc: Global, table: &LiteralTable, name: &str, text: &str) -> Result<Formula, AllocError>
     ensures { IfOk result (λ formula. formula
         ≡ node_said table.now name.now (has_os (λ os. bytes_eq os text.now))) }
 {
-    os_passes(alloc, table, name, |os| os.as_str() == text)
+    Scribe { alloc, table }.os_passes(name, |os| os.as_str() == text)
 }
 
 fn target_is(
@@ -73,7 +71,7 @@ fn target_is(
     ensures { IfOk result (λ formula. formula
         ≡ node_said table.now name.now (has_target (λ target. bytes_eq target text.now))) }
 {
-    target_passes(alloc, table, name, |target| target.as_str() == text)
+    Scribe { alloc, table }.target_passes(name, |target| target.as_str() == text)
 }
 
 fn same_prefixes(a: &Option<Word>, b: &Option<Word>) -> bool
@@ -95,7 +93,7 @@ fn prefix_is(
     ensures { IfOk result (λ formula. formula ≡ node_said table.now name.now
         (has_prefix (λ own. option_eq bytes_eq own prefix.now))) }
 {
-    prefix_passes(alloc, table, name, |own| same_prefixes(own, prefix))
+    Scribe { alloc, table }.prefix_passes(name, |own| same_prefixes(own, prefix))
 }
 
 // The name, the version and the variants are these.
@@ -110,7 +108,7 @@ fn software_is(
     ensures { IfOk result (λ formula. formula
         ≡ plain_said table.now (software_rule name.now own.now version.now variants.now)) }
 {
-    let named = given(alloc, name == own);
+    let named = Scribe { alloc, table }.given(name == own);
     let version = version_is(alloc, table, name, version)?;
     let first = Formula::both(alloc, named, version)?;
     let variants = has_variants(alloc, table, name, variants)?;

@@ -10,9 +10,7 @@ use literal_table::LiteralTable;
 use plain_data::Word;
 use problem::Problem;
 use std::alloc::{AllocError, Global};
-use word_formulas::{
-    buildable_formula, compiler_formula, machine_formula, version_formula, where_built,
-};
+use word_formulas::Scribe;
 
 fn buildable_at(
     alloc: Global,
@@ -24,8 +22,8 @@ fn buildable_at(
         (plain_said table.now (buildable_rule problem.now name.now))) }
 {
     let name = name.as_str();
-    let rule = buildable_formula(alloc, table, problem, name);
-    where_built(alloc, table, name, rule)
+    let rule = Scribe { alloc, table }.buildable_formula(problem, name);
+    Scribe { alloc, table }.where_built(name, rule)
 }
 
 /// Nodes to build have a recipe, and may be built.
@@ -54,8 +52,8 @@ fn version_at(
         (plain_said table.now (version_rule problem.now name.now))) }
 {
     let name = name.as_str();
-    let rule = version_formula(alloc, table, problem, name)?;
-    where_built(alloc, table, name, rule)
+    let rule = Scribe { alloc, table }.version_formula(problem, name)?;
+    Scribe { alloc, table }.where_built(name, rule)
 }
 
 /// The versions of nodes to build are declared.
@@ -80,8 +78,8 @@ fn compiler_at(
         (plain_said table.now (compiler_rule problem.now name.now))) }
 {
     let name = name.as_str();
-    let rule = compiler_formula(alloc, table, problem, name)?;
-    where_built(alloc, table, name, rule)
+    let rule = Scribe { alloc, table }.compiler_formula(problem, name)?;
+    Scribe { alloc, table }.where_built(name, rule)
 }
 
 /// Nodes to build have a compiler of the settings, on an OS and for a target that it supports.
@@ -110,8 +108,8 @@ fn machine_at(
         (plain_said table.now (machine_rule problem.now name.now))) }
 {
     let name = name.as_str();
-    let rule = machine_formula(alloc, table, problem, name)?;
-    where_built(alloc, table, name, rule)
+    let rule = Scribe { alloc, table }.machine_formula(problem, name)?;
+    Scribe { alloc, table }.where_built(name, rule)
 }
 
 /// The OS and the target of nodes to build are in the settings.

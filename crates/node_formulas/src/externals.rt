@@ -15,7 +15,7 @@ use problem::{Problem, entry_of};
 use rule_checks::external_node;
 use site_settings::ExternalEntry;
 use std::alloc::{AllocError, Global};
-use word_formulas::given;
+use word_formulas::Scribe;
 
 /// The external of the name at a place of the settings.
 fn external_at<'a>(problem: &'a Problem, name: &str, place: u64) -> Option<&'a ExternalEntry>
@@ -57,6 +57,6 @@ pub(crate) fn listed_external(
 {
     match external_at(problem, name.as_str(), place) {
         Some(entry) => same_external(alloc, problem, table, name, place, entry),
-        None => Ok(given(alloc, false)),
+        None => Ok(Scribe { alloc, table }.given(false)),
     }
 }

@@ -26,7 +26,7 @@ use problem::Problem;
 use reuse_db::{Dependency, Record};
 use spec_hash::Hash;
 use std::alloc::{AllocError, Global};
-use word_formulas::{each, given, has_edge, origin_passes, prefix_passes};
+use word_formulas::{Scribe, each};
 
 // ---- installed nodes
 
@@ -42,7 +42,7 @@ fn installed_child(
         ≡ plain_said table.now (joined_rule name.now child.now dependency.now)) }
 {
     let hash = &dependency.hash;
-    let installed = origin_passes(alloc, table, child, |origin| installs(hash, origin))?;
+    let installed = Scribe { alloc, table }.origin_passes(child, |origin| installs(hash, origin))?;
     let recorded = recorded_edge(alloc, table, name, child, dependency)?;
     let joined = Formula::both(alloc, installed, recorded)?;
     let provided = provided_formula(alloc, table, child, dependency.virtuals.values())?;
@@ -62,7 +62,7 @@ fn child_formula(
 {
     match record_at(problem, &dependency.hash) {
         Some(child) => installed_child(alloc, table, name, child.name.as_str(), dependency),
-        None => Ok(given(alloc, false)),
+        None => Ok(Scribe { alloc, table }.given(false)),
     }
 }
 
@@ -185,7 +185,7 @@ fn installed_formula(
 {
     match record_at(problem, hash) {
         Some(entry) => record_formula(alloc, problem, table, children, name.as_str(), entry),
-        None => Ok(given(alloc, false)),
+        None => Ok(Scribe { alloc, table }.given(false)),
     }
 }
 
@@ -200,7 +200,7 @@ fn no_edge(
     ensures { IfOk result (λ formula. formula
         ≡ plain_said table.now (isnt (fact (has_edge name.now child.now no_kinds)))) }
 {
-    let edge = has_edge(alloc, table, name, child.as_str(), &no_kinds())?;
+    let edge = Scribe { alloc, table }.has_edge(name, child.as_str(), &no_kinds())?;
     Ok(edge.negated())
 }
 
@@ -238,7 +238,7 @@ fn external_formula(
 fn no_prefix(alloc: Global, table: &LiteralTable, name: &str) -> Result<Formula, AllocError>
     ensures { IfOk result (λ formula. formula ≡ node_said table.now name.now (has_prefix is_none)) }
 {
-    prefix_passes(alloc, table, name, |prefix| prefix.is_none())
+    Scribe { alloc, table }.prefix_passes(name, |prefix| prefix.is_none())
 }
 
 /// What an origin asks of the node of the name, to whose children edges may go.

@@ -21,7 +21,7 @@ use literal_table::{Block, LiteralTable};
 use plain_data::Word;
 use problem::Problem;
 use std::alloc::{AllocError, Global};
-use word_formulas::{each, is_there, origin_passes};
+use word_formulas::{Scribe, each};
 
 // Where the node has the origin, it is as that origin asks.
 fn origin_at(
@@ -37,9 +37,7 @@ fn origin_at(
         (origin_rule problem.now children.now name.now choice.now.0))) }
 {
     let origin = &choice.0;
-    let has = origin_passes(
-        alloc,
-        table,
+    let has = Scribe { alloc, table }.origin_passes(
         name.as_str(),
         |other| same_origin(origin, other),
     )?;
@@ -113,7 +111,7 @@ fn kept_at(
         (kept_rule problem.now (children_of table.now name.now) (origins_of table.now name.now)
         name.now))) }
 {
-    let there = is_there(alloc, table, name.as_str());
+    let there = Scribe { alloc, table }.is_there(name.as_str());
     let kept = kept_formula(alloc, problem, table, name)?;
     Formula::implies(alloc, there, kept)
 }

@@ -11,7 +11,7 @@ use clause_formulas::Formula;
 use graph_core::Kinds;
 use literal_table::LiteralTable;
 use std::alloc::{AllocError, Global};
-use word_formulas::{given, has_edge};
+use word_formulas::Scribe;
 
 /// No kind.
 pub(crate) fn no_kinds() -> Kinds
@@ -66,8 +66,8 @@ pub(crate) fn only_recorded(
     ensures { IfOk result (λ formula. formula ≡ plain_said table.now
         (if_so (fact (has_edge name.now child.now kind.now)) (settled_test recorded))) }
 {
-    let edge = has_edge(alloc, table, name, child, kind)?;
-    let known = given(alloc, recorded);
+    let edge = Scribe { alloc, table }.has_edge(name, child, kind)?;
+    let known = Scribe { alloc, table }.given(recorded);
     Formula::implies(alloc, edge, known)
 }
 
@@ -83,8 +83,8 @@ fn kept_kinds(
         (both_of (fact (has_edge name.now child.now kept.now))
         (isnt (fact (has_edge name.now child.now (record no_kinds { build = true })))))) }
 {
-    let there = has_edge(alloc, table, name, child, kept)?;
-    let build = has_edge(alloc, table, name, child, &build_kind())?;
+    let there = Scribe { alloc, table }.has_edge(name, child, kept)?;
+    let build = Scribe { alloc, table }.has_edge(name, child, &build_kind())?;
     let other = build.negated();
     Formula::both(alloc, there, other)
 }

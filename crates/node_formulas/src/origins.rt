@@ -12,7 +12,7 @@ pub(crate) fn installs(hash: &Hash, origin: &Origin) -> bool
     ensures { result ≡ installs hash.now origin.now }
 {
     match origin {
-        Origin::Installed(own) => own.as_str() == hash.as_str(),
+        Origin::Installed(own) => own == hash,
         Origin::Built | Origin::External(_) => false,
     }
 }
@@ -30,7 +30,7 @@ fn is_installed(hash: &Hash, origin: &Origin) -> bool
     ensures { result ≡ same_origin (Installed hash.now) origin.now }
 {
     match origin {
-        Origin::Installed(other) => hash.as_str() == other.as_str(),
+        Origin::Installed(other) => hash == other,
         Origin::Built | Origin::External(_) => false,
     }
 }

@@ -12,7 +12,7 @@ use literal_table::LiteralTable;
 use plain_data::Word;
 use reuse_db::Dependency;
 use std::alloc::{AllocError, Global};
-use word_formulas::{each, provides_as};
+use word_formulas::{Scribe, each};
 
 /// The edge names just these virtuals.
 fn has_virtuals(
@@ -58,6 +58,6 @@ pub(crate) fn provided_formula(
         ≡ plain_said table.now (provided_rule provider.now virtuals.now)) }
 {
     each(alloc, virtuals, |name| {
-        provides_as(alloc, table, name.as_str(), provider)
+        Scribe { alloc, table }.provides_as(name.as_str(), provider)
     })
 }

@@ -12,7 +12,7 @@ use literal_table::LiteralTable;
 use plain_data::Word;
 use problem::Problem;
 use std::alloc::{AllocError, Global};
-use word_formulas::{each, provides_as, provides_formula};
+use word_formulas::{Scribe, each};
 
 // The node of the package is there, and may provide the virtual.
 fn provider_formula(
@@ -26,7 +26,7 @@ fn provider_formula(
         ≡ plain_said table.now (provider_rule problem.now (virtual_name.now, name.now))) }
 {
     let world = problem.world();
-    provides_formula(alloc, table, &world, name, virtual_name, &None)
+    Scribe { alloc, table }.provides_formula(&world, name, virtual_name, &None)
 }
 
 fn provider_at(
@@ -41,7 +41,7 @@ fn provider_at(
         (plain_said table.now (provider_rule problem.now (virtual_name.now, choice.now.0)))) }
 {
     let name = choice.0.as_str();
-    let chosen = provides_as(alloc, table, virtual_name, name)?;
+    let chosen = Scribe { alloc, table }.provides_as(virtual_name, name)?;
     let kept = provider_formula(alloc, problem, table, virtual_name, name)?;
     Formula::implies(alloc, chosen, kept)
 }

@@ -12,7 +12,7 @@ use literal_table::{Block, LiteralTable};
 use plain_data::{List, Word};
 use std::alloc::{AllocError, Global};
 use variant_values::ValueSet;
-use word_formulas::given;
+use word_formulas::Scribe;
 
 // Where a value is left that is not offered, never.
 fn push_rest(alloc: Global, parts: &mut Vec<Formula>, values: &[Word]) -> Result<(), AllocError>
@@ -159,6 +159,6 @@ pub(crate) fn has_variants(
 {
     match table.block(name) {
         Some(block) => variants_in(alloc, block, variants),
-        None => Ok(given(alloc, false)),
+        None => Ok(Scribe { alloc, table }.given(false)),
     }
 }

@@ -15,8 +15,7 @@ use node_formulas::{each_name, each_virtual};
 use plain_data::Word;
 use problem::Problem;
 use rule_formulas::{
-    MetConditions, extra_edges_formula, together_formula, used_formula, variants_formula,
-    where_built,
+    MetConditions, Scribe, extra_edges_formula, together_formula, used_formula, variants_formula,
 };
 use std::alloc::{AllocError, Global};
 
@@ -32,7 +31,7 @@ fn variants_at<C: MetConditions>(
         (variants_of table.now name.now) name.now))) }
 {
     let rule = variants_formula(alloc, problem, table, conditions, name.as_str())?;
-    where_built(alloc, table, name.as_str(), rule)
+    Scribe { alloc, table }.where_built(name.as_str(), rule)
 }
 
 /// The variants of all nodes to build.
@@ -64,7 +63,7 @@ fn extra_at<C: MetConditions>(
         (virtuals_on table.now name.now) (children_of table.now name.now) name.now))) }
 {
     let rule = extra_edges_formula(alloc, problem, table, conditions, name.as_str())?;
-    where_built(alloc, table, name.as_str(), rule)
+    Scribe { alloc, table }.where_built(name.as_str(), rule)
 }
 
 /// The edges of all nodes to build.

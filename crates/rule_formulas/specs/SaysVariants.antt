@@ -15,12 +15,12 @@ module _ {C : Type 0} (condition_of : C → Text → Condition → Statement) (b
 
   -- the definition governs, of those that begin with it, and allows the values
   abbrev pub governs_by : VariantRow → Definitions → Statement
-  governs_by row rest = governs_said b.table.now (condition_of b.conditions.now) b.name.now b.variant.now row rest
+  governs_by row rest = governs_said b.scribe.table.now (condition_of b.conditions.now) b.name.now b.variant.now row rest
 
   -- of each of these definitions
   abbrev pub each_governs : Definitions → List Statement
-  each_governs rows = last_parts b.table.now (condition_of b.conditions.now) b.name.now b.variant.now rows
+  each_governs rows = last_parts b.scribe.table.now (condition_of b.conditions.now) b.name.now b.variant.now rows
 
   -- some definition governs, and allows the values: the list is halved, so many times at most
   abbrev pub last_by : ℕ → Definitions → Statement
-  last_by times rows = last_said b.table.now (condition_of b.conditions.now) b.name.now b.variant.now times rows
+  last_by times rows = last_said b.scribe.table.now (condition_of b.conditions.now) b.name.now b.variant.now times rows

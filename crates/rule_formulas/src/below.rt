@@ -12,7 +12,7 @@ use clause_store::Lit;
 use plain_data::Word;
 use spec_grammar::Part;
 use std::alloc::AllocError;
-use word_formulas::{given, provider_formula, some, suits_formula};
+use word_formulas::{Scribe, some};
 
 impl<'a, 'l, 'w> SpecBuilder<'a, 'l, 'w> {
     /// The part holds at the node of a name, and a path leads to it.
@@ -26,9 +26,11 @@ impl<'a, 'l, 'w> SpecBuilder<'a, 'l, 'w> {
         ensures { IfOk result (says self.now
             (λ world names. reached_rule world from.now part.now asked.now name.now)) }
     {
-        let suits = suits_formula(self.alloc, self.table, self.world, part, asked, name)?;
-        let path = self.paths.path(self.alloc, self.table, from, name.as_str());
-        Formula::both(self.alloc, suits, path)
+        let suits = self.scribe.suits_formula(self.world, part, asked, name)?;
+        let path = self
+            .paths
+            .path(self.scribe.alloc, self.scribe.table, from, name.as_str());
+        Formula::both(self.scribe.alloc, suits, path)
     }
 
     /// The package of a choice provides the virtual, the part holds at its node, and a path leads
@@ -44,9 +46,9 @@ impl<'a, 'l, 'w> SpecBuilder<'a, 'l, 'w> {
             (λ world names. both_of (fact (provides_as asked.now choice.now.0))
             (reached_rule world from.now part.now asked.now choice.now.0))) }
     {
-        let provides = provider_formula(self.alloc, self.table, asked, &choice.0)?;
+        let provides = self.scribe.provider_formula(asked, &choice.0)?;
         let reached = self.reached_formula(from, part, asked, &choice.0)?;
-        Formula::both(self.alloc, provides, reached)
+        Formula::both(self.scribe.alloc, provides, reached)
     }
 
     /// The part holds at the node that its name asks for, and a path leads to it.
@@ -55,9 +57,11 @@ impl<'a, 'l, 'w> SpecBuilder<'a, 'l, 'w> {
             (reached_rule world from.now part.now asked.now))) }
     {
         if self.world.is_virtual(asked.as_str()) {
-            some(self.alloc, self.table.packages(asked.as_str()), |choice| {
-                self.provided_formula(from, part, asked, choice)
-            })
+            some(
+                self.scribe.alloc,
+                self.scribe.table.packages(asked.as_str()),
+                |choice| { self.provided_formula(from, part, asked, choice) },
+            )
         } else {
             self.reached_formula(from, part, asked, asked)
         }
@@ -70,7 +74,7 @@ impl<'a, 'l, 'w> SpecBuilder<'a, 'l, 'w> {
     {
         match &part.name {
             Some(asked) => self.asked_formula(from, part, asked),
-            None => Ok(given(self.alloc, false)),
+            None => Ok(self.scribe.given(false)),
         }
     }
 }

@@ -29,7 +29,11 @@ impl<'a, 'l, 'w> SpecBuilder<'a, 'l, 'w> {
         ensures { IfOk result (says self.now
             (λ world names. some (holds_rule world names name.now) specs.now)) }
     {
-        some(self.alloc, specs, |spec| self.holds_formula(name, spec))
+        some(
+            self.scribe.alloc,
+            specs,
+            |spec| self.holds_formula(name, spec),
+        )
     }
 
     /// None of these specs holds, or none of those.
@@ -44,7 +48,7 @@ impl<'a, 'l, 'w> SpecBuilder<'a, 'l, 'w> {
     {
         let first = self.some_formula(name, front)?;
         let second = self.some_formula(name, back)?;
-        either(self.alloc, first.negated(), second.negated())
+        either(self.scribe.alloc, first.negated(), second.negated())
     }
 
     /// The spec does not hold, or none of the others does.
@@ -54,7 +58,7 @@ impl<'a, 'l, 'w> SpecBuilder<'a, 'l, 'w> {
     {
         let first = self.holds_formula(name, spec)?;
         let others = self.some_formula(name, rest)?;
-        either(self.alloc, first.negated(), others.negated())
+        either(self.scribe.alloc, first.negated(), others.negated())
     }
 
     #[tactic(auto, using(crate::proofs::Few::first_none, crate::proofs::Few::first_some))]
@@ -122,9 +126,9 @@ impl<'a, 'l, 'w> SpecBuilder<'a, 'l, 'w> {
             (λ world names. few_rules (length specs.now / 8) (holds_rule world names name.now)
             specs.now))) }
     {
-        let mut parts = Vec::new(self.alloc);
+        let mut parts = Vec::new(self.scribe.alloc);
         self.push_few(&mut parts, name, specs, specs.len() / SHORT)?;
-        Formula::all(self.alloc, parts)
+        Formula::all(self.scribe.alloc, parts)
     }
 
     /// Exactly one spec holds at the node of the name.
@@ -134,6 +138,6 @@ impl<'a, 'l, 'w> SpecBuilder<'a, 'l, 'w> {
     {
         let some = self.some_formula(name, specs)?;
         let few = self.few_formula(name, specs)?;
-        Formula::both(self.alloc, some, few)
+        Formula::both(self.scribe.alloc, some, few)
     }
 }

@@ -20,7 +20,7 @@ use problem::{Demand, Problem, required_at};
 use recipe_data::RequireRow;
 use spec_grammar::Spec;
 use std::alloc::{AllocError, Global};
-use word_formulas::{MetConditions, given, where_built, where_there};
+use word_formulas::{MetConditions, Scribe};
 
 /// The root at this place.
 fn root_at(problem: &Problem, place: u64) -> Option<&Spec>
@@ -55,7 +55,7 @@ impl<'a, C: MetConditions> DemandBuilder<'a, C> {
         let world = self.problem.world();
         match &spec.top.name {
             Some(name) => self.specs(&world).holds_formula(name.as_str(), spec),
-            None => Ok(given(self.alloc, false)),
+            None => Ok(self.scribe.given(false)),
         }
     }
 
@@ -66,7 +66,7 @@ impl<'a, C: MetConditions> DemandBuilder<'a, C> {
     {
         match root_at(self.problem, place) {
             Some(spec) => self.spec_formula(spec),
-            None => Ok(given(self.alloc, true)),
+            None => Ok(self.scribe.given(true)),
         }
     }
 
@@ -76,7 +76,7 @@ impl<'a, C: MetConditions> DemandBuilder<'a, C> {
             where_built name.now (directive_rule problem names number name.now))) }
     {
         let rule = self.directive_formula(name, number)?;
-        where_built(self.alloc, self.table, name, rule)
+        self.scribe.where_built(name, rule)
     }
 
     /// The directives with this number are kept. Of a name that no node can have nothing is said,
@@ -85,10 +85,10 @@ impl<'a, C: MetConditions> DemandBuilder<'a, C> {
         ensures { IfOk result (says_demand C.condition_of self.now
             (demands.Directive name.now number)) }
     {
-        if has_name(self.table, name) {
+        if has_name(self.scribe.table, name) {
             self.built_formula(name, number)
         } else {
-            Ok(given(self.alloc, true))
+            Ok(self.scribe.given(true))
         }
     }
 
@@ -100,7 +100,7 @@ impl<'a, C: MetConditions> DemandBuilder<'a, C> {
     {
         match row_at(self.problem, name, place) {
             Some(row) => self.requirement_formula(name, row),
-            None => Ok(given(self.alloc, true)),
+            None => Ok(self.scribe.given(true)),
         }
     }
 
@@ -110,7 +110,7 @@ impl<'a, C: MetConditions> DemandBuilder<'a, C> {
             where_there name.now (required_rule problem names place name.now))) }
     {
         let rule = self.required_formula(name, place)?;
-        where_there(self.alloc, self.table, name, rule)
+        self.scribe.where_there(name, rule)
     }
 
     /// The requirement of the settings at this place is kept. Of a name that no node can have
@@ -119,10 +119,10 @@ impl<'a, C: MetConditions> DemandBuilder<'a, C> {
         ensures { IfOk result (says_demand C.condition_of self.now
             (demands.Setting name.now place)) }
     {
-        if has_name(self.table, name) {
+        if has_name(self.scribe.table, name) {
             self.there_formula(name, place)
         } else {
-            Ok(given(self.alloc, true))
+            Ok(self.scribe.given(true))
         }
     }
 }
@@ -141,9 +141,8 @@ pub fn demand_formula<C: MetConditions>(
         (demand_rule problem.now (names_for table.now) (has_name table.now) demand.now)) }
 {
     let builder = DemandBuilder {
-        alloc,
+        scribe: Scribe { alloc, table },
         problem,
-        table,
         paths,
         conditions,
     };

@@ -12,7 +12,7 @@ use crate::numbered::{conflicts_with, depends_with, requirements_with};
 use clause_formulas::Formula;
 use recipe_data::{ConflictRow, DependRow, RequireRow};
 use std::alloc::AllocError;
-use word_formulas::{MetConditions, constraint_formula, each, edge_formula};
+use word_formulas::{MetConditions, Scribe, each};
 
 impl<'a, C: MetConditions> DemandBuilder<'a, C> {
     /// Where the condition of the row is met, its edge is there, and the node that it asks for
@@ -22,11 +22,11 @@ impl<'a, C: MetConditions> DemandBuilder<'a, C> {
             (λ problem names. both_of (edge_rule problem names name.now row.now)
             (constraint_rule problem names name.now row.now))) }
     {
-        let met = self.conditions.met(self.alloc, name, &row.when)?;
-        let edge = edge_formula(self.alloc, self.table, self.problem, name, row, met)?;
-        let again = self.conditions.met(self.alloc, name, &row.when)?;
-        let constraint = constraint_formula(self.alloc, self.table, self.problem, row, again)?;
-        Formula::both(self.alloc, edge, constraint)
+        let met = self.conditions.met(self.scribe.alloc, name, &row.when)?;
+        let edge = self.scribe.edge_formula(self.problem, name, row, met)?;
+        let again = self.conditions.met(self.scribe.alloc, name, &row.when)?;
+        let constraint = self.scribe.constraint_formula(self.problem, row, again)?;
+        Formula::both(self.scribe.alloc, edge, constraint)
     }
 
     /// Not both the condition of the row is met and its spec holds.
@@ -35,9 +35,9 @@ impl<'a, C: MetConditions> DemandBuilder<'a, C> {
             (λ problem names. conflict_rule problem names name.now row.now)) }
     {
         let world = self.problem.world();
-        let met = self.conditions.met(self.alloc, name, &row.when)?;
+        let met = self.conditions.met(self.scribe.alloc, name, &row.when)?;
         let holds = self.specs(&world).holds_formula(name, &row.spec)?;
-        let both = Formula::both(self.alloc, met, holds)?;
+        let both = Formula::both(self.scribe.alloc, met, holds)?;
         Ok(both.negated())
     }
 
@@ -63,9 +63,9 @@ impl<'a, C: MetConditions> DemandBuilder<'a, C> {
         ensures { IfOk result (says_by C.condition_of self.now
             (λ problem names. requirement_rule problem names name.now row.now)) }
     {
-        let met = self.conditions.met(self.alloc, name, &row.when)?;
+        let met = self.conditions.met(self.scribe.alloc, name, &row.when)?;
         let choice = self.choice_formula(name, row)?;
-        Formula::implies(self.alloc, met, choice)
+        Formula::implies(self.scribe.alloc, met, choice)
     }
 
     // Each dependency of this number is met, and so is what it asks of its child.
@@ -76,7 +76,7 @@ impl<'a, C: MetConditions> DemandBuilder<'a, C> {
             (filter (λ row. row.number == number) (depends_at problem name.now)))) }
     {
         each(
-            self.alloc,
+            self.scribe.alloc,
             depends_with(self.problem, name, number),
             |row| self.depend_formula(name, row),
         )
@@ -89,7 +89,7 @@ impl<'a, C: MetConditions> DemandBuilder<'a, C> {
             (filter (λ row. row.number == number) (conflicts_at problem name.now)))) }
     {
         each(
-            self.alloc,
+            self.scribe.alloc,
             conflicts_with(self.problem, name, number),
             |row| self.conflict_formula(name, row),
         )
@@ -102,7 +102,7 @@ impl<'a, C: MetConditions> DemandBuilder<'a, C> {
             (filter (λ row. row.number == number) (requirements_at problem name.now)))) }
     {
         each(
-            self.alloc,
+            self.scribe.alloc,
             requirements_with(self.problem, name, number),
             |row| self.requirement_formula(name, row),
         )
@@ -115,8 +115,8 @@ impl<'a, C: MetConditions> DemandBuilder<'a, C> {
     {
         let depends = self.depends_formula(name, number)?;
         let conflicts = self.conflicts_formula(name, number)?;
-        let most = Formula::both(self.alloc, depends, conflicts)?;
+        let most = Formula::both(self.scribe.alloc, depends, conflicts)?;
         let requirements = self.requirements_formula(name, number)?;
-        Formula::both(self.alloc, most, requirements)
+        Formula::both(self.scribe.alloc, most, requirements)
     }
 }

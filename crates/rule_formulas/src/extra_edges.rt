@@ -17,15 +17,14 @@ use literal_table::{EdgeLits, LiteralTable};
 use problem::Problem;
 use recipe_data::DependRow;
 use std::alloc::{AllocError, Global};
-use word_formulas::{MetConditions, asks_formula, each_where, has_edge, some_where};
+use word_formulas::{MetConditions, Scribe, each_where, some_where};
 
 /// The edges from a name, with the rows that may ask for them and what gives conditions their
 /// formulas.
 #[derive(Drop)]
 pub(crate) struct EdgeBuilder<'a, 'r, C> {
-    pub(crate) alloc: Global,
+    pub(crate) scribe: Scribe<'a>,
     pub(crate) problem: &'a Problem,
-    pub(crate) table: &'a LiteralTable,
     pub(crate) conditions: &'a C,
     pub(crate) name: &'a str,
     /// The rows, each with the packages that it may ask for.
@@ -94,8 +93,10 @@ impl<'a, 'r, C: MetConditions> EdgeBuilder<'a, 'r, C> {
         ensures { IfOk result (says_edges C.condition_of self.now
             (λ problem names name. asks_rule problem names name child.now row.now)) }
     {
-        let met = self.conditions.met(self.alloc, self.name, &row.when)?;
-        asks_formula(self.alloc, self.table, self.problem, child, row, met)
+        let met = self
+            .conditions
+            .met(self.scribe.alloc, self.name, &row.when)?;
+        self.scribe.asks_formula(self.problem, child, row, met)
     }
 
     /// Some row asks for the child as this kind.
@@ -103,7 +104,7 @@ impl<'a, 'r, C: MetConditions> EdgeBuilder<'a, 'r, C> {
         ensures { IfOk result (says_asking C.condition_of self.now kind child.now) }
     {
         some_where(
-            self.alloc,
+            self.scribe.alloc,
             self.rows,
             |asking| may_name_as(kind, child, asking),
             |asking| self.row_formula(child, asking.row()),
@@ -115,9 +116,9 @@ impl<'a, 'r, C: MetConditions> EdgeBuilder<'a, 'r, C> {
         ensures { IfOk result (says_kind C.condition_of self.now kind child.now) }
     {
         let kinds = kinds_of(kind);
-        let edge = has_edge(self.alloc, self.table, self.name, child, &kinds)?;
+        let edge = self.scribe.has_edge(self.name, child, &kinds)?;
         let asked = self.asking_formula(kind, child)?;
-        Formula::implies(self.alloc, edge, asked)
+        Formula::implies(self.scribe.alloc, edge, asked)
     }
 
     /// The edge has no kind and no virtual that none asks for.
@@ -127,10 +128,10 @@ impl<'a, 'r, C: MetConditions> EdgeBuilder<'a, 'r, C> {
         let build = self.kind_formula(EdgeKind::Build, child)?;
         let link = self.kind_formula(EdgeKind::Link, child)?;
         let run = self.kind_formula(EdgeKind::Run, child)?;
-        let most = Formula::both(self.alloc, build, link)?;
-        let kinds = Formula::both(self.alloc, most, run)?;
+        let most = Formula::both(self.scribe.alloc, build, link)?;
+        let kinds = Formula::both(self.scribe.alloc, most, run)?;
         let virtuals = self.virtuals_formula(child)?;
-        Formula::both(self.alloc, kinds, virtuals)
+        Formula::both(self.scribe.alloc, kinds, virtuals)
     }
 
     /// No edge from the name has a kind or a virtual that none of these rows asks for.
@@ -138,8 +139,8 @@ impl<'a, 'r, C: MetConditions> EdgeBuilder<'a, 'r, C> {
         ensures { IfOk result (says_all C.condition_of self.now) }
     {
         each_where(
-            self.alloc,
-            self.table.edges(),
+            self.scribe.alloc,
+            self.scribe.table.edges(),
             |edge| leaves(edge, self.name),
             |edge| self.extra_edge_formula(edge.child.as_str()),
         )
@@ -161,9 +162,8 @@ pub fn extra_edges_formula<C: MetConditions>(
     let rows = asking_rows(alloc, problem, table, name)?;
     let named = NamedRows::new(alloc, problem, name)?;
     let builder = EdgeBuilder {
-        alloc,
+        scribe: Scribe { alloc, table },
         problem,
-        table,
         conditions,
         name,
         rows: rows.as_slice(),

@@ -12,7 +12,7 @@ use clause_formulas::Formula;
 use clause_store::Lit;
 use plain_data::Word;
 use std::alloc::AllocError;
-use word_formulas::{MetConditions, each, has_virtual, provides_as, some};
+use word_formulas::{MetConditions, Scribe, each, some};
 
 impl<'a, 'r, C: MetConditions> EdgeBuilder<'a, 'r, C> {
     /// A row of the name that asks for the virtual is met.
@@ -22,11 +22,11 @@ impl<'a, 'r, C: MetConditions> EdgeBuilder<'a, 'r, C> {
             (filter (names_virtual problem virtual_name.now) (depends_at problem name)))) }
     {
         let name = self.named.name();
-        let asking = self.named.asking(self.alloc, virtual_name)?;
+        let asking = self.named.asking(self.scribe.alloc, virtual_name)?;
         some(
-            self.alloc,
+            self.scribe.alloc,
             asking.as_slice(),
-            |row| self.conditions.met(self.alloc, name, &row.when),
+            |row| self.conditions.met(self.scribe.alloc, name, &row.when),
         )
     }
 
@@ -38,22 +38,22 @@ impl<'a, 'r, C: MetConditions> EdgeBuilder<'a, 'r, C> {
     {
         let name = self.named.name();
         let virtual_name = choice.0.as_str();
-        let named = has_virtual(self.alloc, self.table, name, child, virtual_name)?;
-        let provides = provides_as(self.alloc, self.table, virtual_name, child)?;
+        let named = self.scribe.has_virtual(name, child, virtual_name)?;
+        let provides = self.scribe.provides_as(virtual_name, child)?;
         let met = self.rows_formula(virtual_name)?;
-        let asked = Formula::both(self.alloc, provides, met)?;
-        Formula::implies(self.alloc, named, asked)
+        let asked = Formula::both(self.scribe.alloc, provides, met)?;
+        Formula::implies(self.scribe.alloc, named, asked)
     }
 
     /// No virtual on the edge is one that none of the rows asks for.
     pub(crate) fn virtuals_formula(&self, child: &str) -> Result<Formula, AllocError>
         ensures { IfOk result (says_named C.condition_of self.now
             (λ problem names name. each_keeps (virtual_rule problem names name child.now)
-            (virtuals_on self.now.table.now name child.now))) }
+            (virtuals_on self.now.scribe.table.now name child.now))) }
     {
-        let virtuals = self.table.virtuals(self.named.name(), child);
+        let virtuals = self.scribe.table.virtuals(self.named.name(), child);
         each(
-            self.alloc,
+            self.scribe.alloc,
             virtuals,
             |choice| self.virtual_formula(child, choice),
         )

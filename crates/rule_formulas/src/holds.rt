@@ -14,7 +14,7 @@ use literal_table::LiteralTable;
 use recipe_data::Condition;
 use spec_grammar::{Part, Spec};
 use std::alloc::{AllocError, Global};
-use word_formulas::{each, meets_formula};
+use word_formulas::{Scribe, each};
 
 impl<'a, 'l, 'w> SpecBuilder<'a, 'l, 'w> {
     /// Each part holds at a node to which a path leads.
@@ -22,7 +22,11 @@ impl<'a, 'l, 'w> SpecBuilder<'a, 'l, 'w> {
         ensures { IfOk result (says self.now
             (λ world names. each_keeps (below_rule world names from.now) parts.now)) }
     {
-        each(self.alloc, parts, |part| self.below_formula(from, part))
+        each(
+            self.scribe.alloc,
+            parts,
+            |part| self.below_formula(from, part),
+        )
     }
 
     /// The spec holds at the node of the name.
@@ -30,9 +34,9 @@ impl<'a, 'l, 'w> SpecBuilder<'a, 'l, 'w> {
         ensures { IfOk result (says self.now
             (λ world names. holds_rule world names name.now spec.now)) }
     {
-        let meets = meets_formula(self.alloc, self.table, self.world, name, &spec.top)?;
+        let meets = self.scribe.meets_formula(self.world, name, &spec.top)?;
         let below = self.parts_formula(name, spec.below.as_slice())?;
-        Formula::both(self.alloc, meets, below)
+        Formula::both(self.scribe.alloc, meets, below)
     }
 }
 
@@ -49,8 +53,7 @@ pub fn condition_formula(
         (condition_rule world.now (names_for table.now) name.now when.now)) }
 {
     let builder = SpecBuilder {
-        alloc,
-        table,
+        scribe: Scribe { alloc, table },
         world,
         paths,
     };

@@ -36,4 +36,4 @@ pub use theorems::term_laws;
 pub use together::together_formula;
 pub use used::used_formula;
 pub use variants::variants_formula;
-pub use word_formulas::{MetConditions, where_built};
+pub use word_formulas::{MetConditions, Scribe};

@@ -2,14 +2,12 @@
 
 use condition_rules::World;
 use graph_levels::PathLits;
-use literal_table::LiteralTable;
-use std::alloc::Global;
+use word_formulas::Scribe;
 
 /// What specs are read against, and the literals of nodes and of paths.
 #[derive(Drop)]
 pub(crate) struct SpecBuilder<'a, 'l, 'w> {
-    pub(crate) alloc: Global,
-    pub(crate) table: &'a LiteralTable,
+    pub(crate) scribe: Scribe<'a>,
     pub(crate) world: &'l World<'w>,
     pub(crate) paths: &'a PathLits,
 }

@@ -19,14 +19,13 @@ use plain_data::Word;
 use problem::{Problem, provides_at};
 use recipe_data::ProvideRow;
 use std::alloc::{AllocError, Global};
-use word_formulas::{each, each_where, given, provide_row_formula, provider_formula};
+use word_formulas::{Scribe, each, each_where};
 
 /// A problem, and the literals of what provides its virtuals.
 #[derive(Drop)]
 struct ProviderBuilder<'a> {
-    alloc: Global,
+    scribe: Scribe<'a>,
     problem: &'a Problem,
-    table: &'a LiteralTable,
 }
 
 impl<'a> ProviderBuilder<'a> {
@@ -41,9 +40,9 @@ impl<'a> ProviderBuilder<'a> {
             if_so (known_rule (fact (provides_as virtual_name.now choice.now.0)))
             (known_rule (settled_test (bytes_eq choice.now.0 name.now))))) }
     {
-        let provides = provider_formula(self.alloc, self.table, virtual_name, &choice.0)?;
-        let same = given(self.alloc, choice.0.as_str() == name.as_str());
-        Formula::implies(self.alloc, provides, same)
+        let provides = self.scribe.provider_formula(virtual_name, &choice.0)?;
+        let same = self.scribe.given(choice.0.as_str() == name.as_str());
+        Formula::implies(self.scribe.alloc, provides, same)
     }
 
     /// The virtual has no provider but this package.
@@ -52,8 +51,8 @@ impl<'a> ProviderBuilder<'a> {
             (λ problem names. no_other_rule names name.now virtual_name.now)) }
     {
         each(
-            self.alloc,
-            self.table.packages(virtual_name.as_str()),
+            self.scribe.alloc,
+            self.scribe.table.packages(virtual_name.as_str()),
             |choice| { self.only_formula(name, virtual_name, choice) },
         )
     }
@@ -64,7 +63,7 @@ impl<'a> ProviderBuilder<'a> {
             (λ problem names. each_name_rule problem names name.now row.now)) }
     {
         each_where(
-            self.alloc,
+            self.scribe.alloc,
             provides_at(self.problem, name.as_str()),
             |other| other.number == row.number,
             |other| self.no_other_formula(name, &other.name),
@@ -84,9 +83,11 @@ impl<'a> ProviderBuilder<'a> {
         let world = self.problem.world();
         let name = provider.as_str();
         let asked = virtual_name.as_str();
-        let by_row = provide_row_formula(self.alloc, self.table, &world, name, asked, &None, row)?;
+        let by_row = self
+            .scribe
+            .provide_row_formula(&world, name, asked, &None, row)?;
         let together = self.each_name_formula(provider, row)?;
-        Formula::implies(self.alloc, by_row, together)
+        Formula::implies(self.scribe.alloc, by_row, together)
     }
 
     /// So it is by each row of the provider that names the virtual.
@@ -97,7 +98,7 @@ impl<'a> ProviderBuilder<'a> {
             (provides_at problem provider.now)))) }
     {
         each_where(
-            self.alloc,
+            self.scribe.alloc,
             provides_at(self.problem, provider.as_str()),
             |row| row.name.as_str() == virtual_name.as_str(),
             |row| self.by_row_formula(virtual_name, provider, row),
@@ -112,7 +113,7 @@ impl<'a> ProviderBuilder<'a> {
         if self.problem.settings().provided_together {
             self.rows_together(virtual_name, provider)
         } else {
-            Ok(given(self.alloc, true))
+            Ok(self.scribe.given(true))
         }
     }
 
@@ -126,9 +127,9 @@ impl<'a> ProviderBuilder<'a> {
             if_so (known_rule (fact (provides_as virtual_name.now choice.now.0)))
             (together_rule problem names (virtual_name.now, choice.now.0)))) }
     {
-        let provides = provider_formula(self.alloc, self.table, virtual_name, &choice.0)?;
+        let provides = self.scribe.provider_formula(virtual_name, &choice.0)?;
         let together = self.provider_together(virtual_name, &choice.0)?;
-        Formula::implies(self.alloc, provides, together)
+        Formula::implies(self.scribe.alloc, provides, together)
     }
 }
 
@@ -145,9 +146,8 @@ pub fn together_formula(
         virtual_name.now)) }
 {
     let builder = ProviderBuilder {
-        alloc,
+        scribe: Scribe { alloc, table },
         problem,
-        table,
     };
     each(alloc, table.packages(virtual_name.as_str()), |choice| {
         builder.choice_formula(virtual_name, choice)

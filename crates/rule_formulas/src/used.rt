@@ -14,73 +14,61 @@ use clause_store::Lit;
 use literal_table::LiteralTable;
 use plain_data::Word;
 use std::alloc::{AllocError, Global};
-use word_formulas::{each, has_virtual, provider_formula, some_where, virtual_choice};
+use word_formulas::{Scribe, each, some_where};
 
 /// An edge from the name to the provider may name the virtual.
-fn may_use(table: &LiteralTable, virtual_name: &Word, provider: &Word, name: &Word) -> bool
-    ensures { result ≡ may_use table.now (virtual_name.now, provider.now) name.now }
+fn may_use(scribe: &Scribe, virtual_name: &Word, provider: &Word, name: &Word) -> bool
+    ensures { result ≡ may_use scribe.now.table.now (virtual_name.now, provider.now) name.now }
 {
-    let choice = virtual_choice(
-        table,
-        name.as_str(),
-        provider.as_str(),
-        virtual_name.as_str(),
-    );
+    let choice = scribe.virtual_choice(name.as_str(), provider.as_str(), virtual_name.as_str());
     choice.is_some()
 }
 
 /// An edge from the name to the provider names the virtual.
 fn use_formula(
-    alloc: Global,
-    table: &LiteralTable,
+    scribe: &Scribe,
     virtual_name: &Word,
     provider: &Word,
     name: &Word,
 ) -> Result<Formula, AllocError>
-    ensures { IfOk result (λ formula. formula ≡ plain_term table.now no_conditions
+    ensures { IfOk result (λ formula. formula ≡ plain_term scribe.now.table.now no_conditions
         (use_rule (virtual_name.now, provider.now) name.now)) }
 {
-    has_virtual(
-        alloc,
-        table,
-        name.as_str(),
-        provider.as_str(),
-        virtual_name.as_str(),
-    )
+    scribe.has_virtual(name.as_str(), provider.as_str(), virtual_name.as_str())
 }
 
 /// Some node uses the provider.
 fn used_by_some(
-    alloc: Global,
-    table: &LiteralTable,
+    scribe: &Scribe,
     virtual_name: &Word,
     provider: &Word,
 ) -> Result<Formula, AllocError>
-    ensures { IfOk result (λ formula. formula ≡ plain_term table.now no_conditions
-        (used_rule (may_use table.now) (table_names table.now) (virtual_name.now, provider.now))) }
+    ensures { IfOk result (λ formula. formula ≡ plain_term scribe.now.table.now no_conditions
+        (used_rule (may_use scribe.now.table.now) (table_names scribe.now.table.now)
+        (virtual_name.now, provider.now))) }
 {
     some_where(
-        alloc,
-        table.blocks(),
-        |block| may_use(table, virtual_name, provider, &block.name),
-        |block| use_formula(alloc, table, virtual_name, provider, &block.name),
+        scribe.alloc,
+        scribe.table.blocks(),
+        |block| may_use(scribe, virtual_name, provider, &block.name),
+        |block| use_formula(scribe, virtual_name, provider, &block.name),
     )
 }
 
 /// Where the package provides the virtual, some node uses it.
 fn choice_formula(
-    alloc: Global,
-    table: &LiteralTable,
+    scribe: &Scribe,
     virtual_name: &Word,
     choice: &(Word, Lit),
 ) -> Result<Formula, AllocError>
-    ensures { IfOk result (λ formula. formula ≡ plain_term table.now no_conditions
+    ensures { IfOk result (λ formula. formula ≡ plain_term scribe.now.table.now no_conditions
         (if_so (known_rule (fact (provides_as virtual_name.now choice.now.0)))
-        (used_rule (may_use table.now) (table_names table.now) (virtual_name.now, choice.now.0)))) }
+        (used_rule (may_use scribe.now.table.now) (table_names scribe.now.table.now)
+        (virtual_name.now, choice.now.0)))) }
 {
-    let provides = provider_formula(alloc, table, virtual_name, &choice.0)?;
-    let used = used_by_some(alloc, table, virtual_name, &choice.0)?;
-    Formula::implies(alloc, provides, used)
+    let provides = scribe.provider_formula(virtual_name, &choice.0)?;
+    let used = used_by_some(scribe, virtual_name, &choice.0)?;
+    Formula::implies(scribe.alloc, provides, used)
 }
 
 /// The provider of the virtual is used by some node, whether that is to be built or kept.
@@ -93,7 +81,8 @@ pub fn used_formula(
         (of_provider (names_for table.now) (used_rule (may_use table.now) (table_names table.now))
         virtual_name.now)) }
 {
+    let scribe = Scribe { alloc, table };
     each(alloc, table.packages(virtual_name.as_str()), |choice| {
-        choice_formula(alloc, table, virtual_name, choice)
+        choice_formula(&scribe, virtual_name, choice)
     })
 }

@@ -14,7 +14,7 @@ use plain_data::{List, Word};
 use problem::Problem;
 use recipe_data::VariantRow;
 use std::alloc::{AllocError, Global};
-use word_formulas::{MetConditions, allows_formula, each, has_variant, some};
+use word_formulas::{MetConditions, Scribe, each, some};
 
 /// How many definitions are kept apart one by one.
 const SHORT: usize = 8;
@@ -22,8 +22,7 @@ const SHORT: usize = 8;
 /// A variant of the node of a name, and what gives conditions their formulas.
 #[derive(Drop)]
 struct VariantBuilder<'a, C> {
-    alloc: Global,
-    table: &'a LiteralTable,
+    scribe: Scribe<'a>,
     conditions: &'a C,
     name: &'a str,
     variant: &'a str,
@@ -36,9 +35,9 @@ impl<'a, C: MetConditions> VariantBuilder<'a, C> {
             ≡ met_by_some C.condition_of self.now rows.now) }
     {
         some(
-            self.alloc,
+            self.scribe.alloc,
             rows,
-            |row| self.conditions.met(self.alloc, self.name, &row.when),
+            |row| self.conditions.met(self.scribe.alloc, self.name, &row.when),
         )
     }
 
@@ -49,10 +48,12 @@ impl<'a, C: MetConditions> VariantBuilder<'a, C> {
             ≡ governs_by C.condition_of self.now row.now rest.now) }
     {
         let later = self.met_formula(rest)?;
-        let met = self.conditions.met(self.alloc, self.name, &row.when)?;
-        let last = Formula::both(self.alloc, later.negated(), met)?;
-        let allowed = allows_formula(self.alloc, self.table, self.name, self.variant, row)?;
-        Formula::both(self.alloc, last, allowed)
+        let met = self
+            .conditions
+            .met(self.scribe.alloc, self.name, &row.when)?;
+        let last = Formula::both(self.scribe.alloc, later.negated(), met)?;
+        let allowed = self.scribe.allows_formula(self.name, self.variant, row)?;
+        Formula::both(self.scribe.alloc, last, allowed)
     }
 
     /// Of each of these definitions: it governs, and allows the values.
@@ -72,7 +73,7 @@ impl<'a, C: MetConditions> VariantBuilder<'a, C> {
         ensures { IfOk result (λ formula. formula
             ≡ any_statement (each_governs C.condition_of self.now rows.now)) }
     {
-        let mut parts = Vec::new(self.alloc);
+        let mut parts = Vec::new(self.scribe.alloc);
         self.push_last(&mut parts, rows)?;
         Ok(Formula::any(parts))
     }
@@ -89,8 +90,8 @@ impl<'a, C: MetConditions> VariantBuilder<'a, C> {
             (opposite (met_by_some C.condition_of self.now rows.now)) front ∷ back ∷ [])) }
     {
         let later = self.met_formula(rows)?;
-        let mut parts = Vec::new(self.alloc);
-        parts.push(Formula::both(self.alloc, later.negated(), front)?)?;
+        let mut parts = Vec::new(self.scribe.alloc);
+        parts.push(Formula::both(self.scribe.alloc, later.negated(), front)?)?;
         parts.push(back)?;
         Ok(Formula::any(parts))
     }
@@ -129,17 +130,17 @@ fn variant_formula<C: MetConditions>(
     let name = definitions.name();
     let found = definitions.of(alloc, variant)?;
     let rows = found.as_slice();
+    let scribe = Scribe { alloc, table };
     let builder = VariantBuilder {
-        alloc,
-        table,
+        scribe,
         conditions,
         name,
         variant,
     };
     let met = builder.met_formula(rows)?;
-    let there = has_variant(alloc, table, name, variant)?;
+    let there = scribe.has_variant(name, variant)?;
     let where_met = Formula::implies(alloc, met, there)?;
-    let again = has_variant(alloc, table, name, variant)?;
+    let again = scribe.has_variant(name, variant)?;
     let last = builder.last_formula(rows, rows.len() / SHORT)?;
     let where_there = Formula::implies(alloc, again, last)?;
     Formula::both(alloc, where_met, where_there)

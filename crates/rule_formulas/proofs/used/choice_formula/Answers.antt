@@ -12,7 +12,7 @@ use Rattle.rule_formulas.proofs.used.choice_formula.Goals as goal
 
 pub returns : goal.returns
 returns c =
-    let table = c.args.table.now in
+    let table = c.args.scribe.now.table.now in
     let virtual_name = c.args.virtual_name.now in
     let package_name = c.args.choice.now.0 in
     let provides = ok-is c.provider_formula.result c.in_ok-provides.provides

@@ -10,7 +10,7 @@ use Rattle.rule_formulas.proofs.used.may_use.Goals as goal
 
 pub returns : goal.returns
 returns c =
-    let table = c.args.table.now in
+    let table = c.args.scribe.now.table.now in
     let name = c.args.name.now in
     let provider = c.args.provider.now in
     let among = λ (n p v : Text). list_any (bytes_eq v) (choice_values (edge_virtuals table n p)) in

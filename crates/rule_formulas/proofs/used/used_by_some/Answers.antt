@@ -14,7 +14,7 @@ use Rattle.rule_formulas.proofs.used.used_by_some.Goals as goal
 
 pub returns : goal.returns
 returns c =
-    let table = c.args.table.now in
+    let table = c.args.scribe.now.table.now in
     let p : Text × Text = (c.args.virtual_name.now, c.args.provider.now) in
     let rule = λ (name : Text). use_rule p name in
     let said = λ (name : Text). plain_term table no_conditions (use_rule p name) in

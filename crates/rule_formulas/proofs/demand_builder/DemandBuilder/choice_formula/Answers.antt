@@ -12,7 +12,7 @@ use Rattle.rule_formulas.proofs.demand_builder.DemandBuilder.choice_formula.Goal
 
 pub returns-then-row : goal.returns-then-row
 returns-then-row g c =
-    let table = c.args.self.now.table.now in
+    let table = c.args.self.now.scribe.table.now in
     let world = world_of c.args.self.now.problem.now in
     let path = path_by table c.args.self.now.paths.now in
     let row = c.args.row.now in
@@ -22,10 +22,10 @@ returns-then-row g c =
     let choice = λ (both : Bool). if both then one row.specs
     else rule_said path table (some (holds_rule world (names_for table) name) row.specs) in
     ok-same c.one_formula.result
-    (rule_said (path_by b.table.now b.paths.now) b.table.now
-    (just_one (holds_rule b.world.now (names_for b.table.now) name) c.as_slice.result.now))
+    (rule_said (path_by b.scribe.table.now b.paths.now) b.scribe.table.now
+    (just_one (holds_rule b.world.now (names_for b.scribe.table.now) name) c.as_slice.result.now))
     (choice_said path table world name row)
-    (said-same b.table.now table b.world.now world b.paths.now c.args.self.now.paths.now
+    (said-same b.scribe.table.now table b.world.now world b.paths.now c.args.self.now.paths.now
     (λ w names. just_one (holds_rule w names name) c.as_slice.result.now) c.specs-specs.ensures.table (c.specs-specs.ensures.world ∙ c.world-world.ensures)
     c.specs-specs.ensures.paths
     ∙ ap one c.as_slice.ensures ∙ sym (ap choice c.if-row.true))
@@ -33,7 +33,7 @@ returns-then-row g c =
 
 pub returns-else-row : goal.returns-else-row
 returns-else-row g c =
-    let table = c.args.self.now.table.now in
+    let table = c.args.self.now.scribe.table.now in
     let world = world_of c.args.self.now.problem.now in
     let path = path_by table c.args.self.now.paths.now in
     let row = c.args.row.now in
@@ -43,10 +43,10 @@ returns-else-row g c =
     let choice = λ (one : Bool). if one then rule_said path table (just_one (holds_rule world (names_for table) name) row.specs)
     else any row.specs in
     ok-same c.some_formula.result
-    (rule_said (path_by b.table.now b.paths.now) b.table.now
-    (some (holds_rule b.world.now (names_for b.table.now) name) c.as_slice-else-row.result.now))
+    (rule_said (path_by b.scribe.table.now b.paths.now) b.scribe.table.now
+    (some (holds_rule b.world.now (names_for b.scribe.table.now) name) c.as_slice-else-row.result.now))
     (choice_said path table world name row)
-    (said-same b.table.now table b.world.now world b.paths.now c.args.self.now.paths.now
+    (said-same b.scribe.table.now table b.world.now world b.paths.now c.args.self.now.paths.now
     (λ w names. some (holds_rule w names name) c.as_slice-else-row.result.now) c.specs-specs.ensures.table
     (c.specs-specs.ensures.world ∙ c.world-world.ensures)
     c.specs-specs.ensures.paths

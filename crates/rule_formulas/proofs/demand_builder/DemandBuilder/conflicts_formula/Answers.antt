@@ -14,7 +14,7 @@ use Rattle.rule_formulas.proofs.demand_builder.DemandBuilder.conflicts_formula.G
 
 pub returns : goal.returns
 returns g c =
-    let table = c.args.self.now.table.now in
+    let table = c.args.self.now.scribe.table.now in
     let problem = c.args.self.now.problem.now in
     let path = path_by table c.args.self.now.paths.now in
     let condition = g.C.MetConditions.condition_of c.args.self.now.conditions.now in

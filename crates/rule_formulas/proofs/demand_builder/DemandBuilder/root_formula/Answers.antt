@@ -11,7 +11,7 @@ use Rattle.rule_formulas.proofs.demand_builder.DemandBuilder.root_formula.Goals 
 
 pub returns-in-Some : goal.returns-in-Some
 returns-in-Some g c =
-    let table = c.args.self.now.table.now in
+    let table = c.args.self.now.scribe.table.now in
     let problem = c.args.self.now.problem.now in
     let path = path_by table c.args.self.now.paths.now in
     ok-same c.spec_formula.result (rule_said path table (root_rule problem (names_for table) c.in-Some.spec.now))

@@ -10,7 +10,7 @@ use Rattle.rule_formulas.proofs.extra_edges.EdgeBuilder.asking_formula.Goals as 
 
 pub returns : goal.returns
 returns g c =
-    let table = c.args.self.now.table.now in
+    let table = c.args.self.now.scribe.table.now in
     let problem = c.args.self.now.problem.now in
     let condition = g.C.MetConditions.condition_of c.args.self.now.conditions.now in
     let name = c.args.self.now.name.now in

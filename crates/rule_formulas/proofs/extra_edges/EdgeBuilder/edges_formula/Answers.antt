@@ -11,7 +11,7 @@ use Rattle.rule_formulas.proofs.extra_edges.EdgeBuilder.edges_formula.Goals as g
 
 pub returns : goal.returns
 returns g c =
-    let table = c.args.self.now.table.now in
+    let table = c.args.self.now.scribe.table.now in
     let problem = c.args.self.now.problem.now in
     let condition = g.C.MetConditions.condition_of c.args.self.now.conditions.now in
     let rows = c.args.self.now.rows.now in

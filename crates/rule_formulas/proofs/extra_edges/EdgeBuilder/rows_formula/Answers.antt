@@ -15,7 +15,7 @@ use Rattle.rule_formulas.proofs.extra_edges.EdgeBuilder.rows_formula.Goals as go
 
 pub returns : goal.returns
 returns g c =
-    let table = c.args.self.now.table.now in
+    let table = c.args.self.now.scribe.table.now in
     let condition = g.C.MetConditions.condition_of c.args.self.now.conditions.now in
     let problem = c.args.self.now.named.now.0 in
     let name = c.args.self.now.named.now.1 in

@@ -11,7 +11,7 @@ use Rattle.rule_formulas.proofs.spec_builder.SpecBuilder.+push_few.Goals as goal
 
 pub returns-then-times-eq0 : goal.returns-then-times-eq0
 returns-then-times-eq0 t c =
-    let table = c.args.self.now.table.now in
+    let table = c.args.self.now.scribe.table.now in
     let path = path_by table c.args.self.now.paths.now in
     let holds = holds_rule c.args.self.now.world.now (names_for table) c.args.name.now in
     subst (λ (rs : List (Proposition GraphWord)). OnOk c.push_apart.result (c.push_apart.new.parts.items ≡ c.args.parts.now.items
@@ -20,7 +20,7 @@ returns-then-times-eq0 t c =
 
 pub returns-then-specs-le-SHORT : goal.returns-then-specs-le-SHORT
 returns-then-specs-le-SHORT t c =
-    let table = c.args.self.now.table.now in
+    let table = c.args.self.now.scribe.table.now in
     let path = path_by table c.args.self.now.paths.now in
     let holds = holds_rule c.args.self.now.world.now (names_for table) c.args.name.now in
     subst (λ (rs : List (Proposition GraphWord)). OnOk c.push_apart-then-specs-le-SHORT.result
@@ -29,7 +29,7 @@ returns-then-specs-le-SHORT t c =
 
 pub returns : goal.returns
 returns t c =
-    let table = c.args.self.now.table.now in
+    let table = c.args.self.now.scribe.table.now in
     let path = path_by table c.args.self.now.paths.now in
     let holds = holds_rule c.args.self.now.world.now (names_for table) c.args.name.now in
     let xs = c.args.specs.now in

@@ -14,7 +14,7 @@ use Rattle.rule_formulas.proofs.spec_builder.SpecBuilder.asked_formula.Goals as 
 
 pub returns-then-is_virtual : goal.returns-then-is_virtual
 returns-then-is_virtual c =
-    let table = c.args.self.now.table.now in
+    let table = c.args.self.now.scribe.table.now in
     let path = path_by table c.args.self.now.paths.now in
     let world = c.args.self.now.world.now in
     let asked = c.args.asked.now in
@@ -29,7 +29,7 @@ returns-then-is_virtual c =
 
 pub returns-else-is_virtual : goal.returns-else-is_virtual
 returns-else-is_virtual c =
-    let table = c.args.self.now.table.now in
+    let table = c.args.self.now.scribe.table.now in
     let path = path_by table c.args.self.now.paths.now in
     let world = c.args.self.now.world.now in
     let asked = c.args.asked.now in

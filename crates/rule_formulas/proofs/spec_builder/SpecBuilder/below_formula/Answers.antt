@@ -9,7 +9,7 @@ use Rattle.rule_formulas.proofs.spec_builder.SpecBuilder.below_formula.Goals as 
 
 pub returns-in-Some : goal.returns-in-Some
 returns-in-Some c =
-    let table = c.args.self.now.table.now in
+    let table = c.args.self.now.scribe.table.now in
     let path = path_by table c.args.self.now.paths.now in
     let world = c.args.self.now.world.now in
     let from = c.args.from.now in

@@ -11,7 +11,7 @@ use Rattle.rule_formulas.proofs.spec_builder.SpecBuilder.first_formula.Goals as 
 
 pub returns : goal.returns
 returns c =
-    let table = c.args.self.now.table.now in
+    let table = c.args.self.now.scribe.table.now in
     let path = path_by table c.args.self.now.paths.now in
     let holds = holds_rule c.args.self.now.world.now (names_for table) c.args.name.now in
     let first = ok-is c.holds_formula.result c.in_ok-first.first (rule_said path table (holds c.args.spec.now)) c.in_ok-first.was

@@ -10,7 +10,7 @@ use Rattle.rule_formulas.proofs.spec_builder.SpecBuilder.halves_formula.Goals as
 
 pub returns : goal.returns
 returns c =
-    let table = c.args.self.now.table.now in
+    let table = c.args.self.now.scribe.table.now in
     let path = path_by table c.args.self.now.paths.now in
     let holds = holds_rule c.args.self.now.world.now (names_for table) c.args.name.now in
     let first = ok-is c.some_formula.result c.in_ok-first.first (rule_said path table (some holds c.args.front.now)) c.in_ok-first.was

@@ -13,7 +13,7 @@ use Rattle.rule_formulas.proofs.spec_builder.SpecBuilder.holds_formula.Goals as 
 pub returns : goal.returns
 unfolding holds_rule
 returns c =
-    let table = c.args.self.now.table.now in
+    let table = c.args.self.now.scribe.table.now in
     let path = path_by table c.args.self.now.paths.now in
     let world = c.args.self.now.world.now in
     let name = c.args.name.now in

@@ -11,7 +11,7 @@ use Rattle.rule_formulas.proofs.spec_builder.SpecBuilder.one_formula.Goals as go
 
 pub returns : goal.returns
 returns c =
-    let table = c.args.self.now.table.now in
+    let table = c.args.self.now.scribe.table.now in
     let path = path_by table c.args.self.now.paths.now in
     let holds = holds_rule c.args.self.now.world.now (names_for table) c.args.name.now in
     let rules = few_rules (length c.args.specs.now / 8) holds c.args.specs.now in

@@ -11,7 +11,7 @@ use Rattle.rule_formulas.proofs.spec_builder.SpecBuilder.parts_formula.Goals as 
 
 pub returns : goal.returns
 returns c =
-    let table = c.args.self.now.table.now in
+    let table = c.args.self.now.scribe.table.now in
     let path = path_by table c.args.self.now.paths.now in
     let rule = λ (part : Part). below_rule c.args.self.now.world.now (names_for table) c.args.from.now part in
     let formula = λ (part : Part). rule_said path table (below_rule c.args.self.now.world.now (names_for table) c.args.from.now part) in

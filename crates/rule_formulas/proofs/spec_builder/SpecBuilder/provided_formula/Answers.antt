@@ -9,7 +9,7 @@ use Rattle.rule_formulas.proofs.spec_builder.SpecBuilder.provided_formula.Goals 
 
 pub returns : goal.returns
 returns c =
-    let table = c.args.self.now.table.now in
+    let table = c.args.self.now.scribe.table.now in
     let path = path_by table c.args.self.now.paths.now in
     let asked = c.args.asked.now in
     let name = c.args.choice.now.0 in

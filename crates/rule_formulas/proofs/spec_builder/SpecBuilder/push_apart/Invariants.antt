@@ -7,7 +7,7 @@ use Rattle.rule_formulas.proofs.spec_builder.SpecBuilder.push_apart.Given as goa
 
 abbrev pub invariant-loop-i : goal.invariant-loop-i
 invariant-loop-i l =
-    l.parts.items ++ map (rule_said (path_by l.fn.self.table.now l.fn.self.paths.now) l.fn.self.table.now)
-    (apart_rules (holds_rule l.fn.self.world.now (names_for l.fn.self.table.now) l.fn.name) (drop l.i l.specs))
-    ≡ l.fn.parts.items ++ map (rule_said (path_by l.fn.self.table.now l.fn.self.paths.now) l.fn.self.table.now)
-    (apart_rules (holds_rule l.fn.self.world.now (names_for l.fn.self.table.now) l.fn.name) l.fn.specs)
+    l.parts.items ++ map (rule_said (path_by l.fn.self.scribe.table.now l.fn.self.paths.now) l.fn.self.scribe.table.now)
+    (apart_rules (holds_rule l.fn.self.world.now (names_for l.fn.self.scribe.table.now) l.fn.name) (drop l.i l.specs))
+    ≡ l.fn.parts.items ++ map (rule_said (path_by l.fn.self.scribe.table.now l.fn.self.paths.now) l.fn.self.scribe.table.now)
+    (apart_rules (holds_rule l.fn.self.world.now (names_for l.fn.self.scribe.table.now) l.fn.name) l.fn.specs)

@@ -11,7 +11,7 @@ use Rattle.rule_formulas.proofs.spec_builder.SpecBuilder.reached_formula.Goals a
 
 pub returns : goal.returns
 returns c =
-    let table = c.args.self.now.table.now in
+    let table = c.args.self.now.scribe.table.now in
     let path = path_by table c.args.self.now.paths.now in
     let world = c.args.self.now.world.now in
     let from = c.args.from.now in

@@ -11,7 +11,7 @@ use Rattle.rule_formulas.proofs.spec_builder.SpecBuilder.some_formula.Goals as g
 
 pub returns : goal.returns
 returns c =
-    let table = c.args.self.now.table.now in
+    let table = c.args.self.now.scribe.table.now in
     let path = path_by table c.args.self.now.paths.now in
     let rule = λ (spec : Spec). holds_rule c.args.self.now.world.now (names_for table) c.args.name.now spec in
     let formula = λ (spec : Spec). rule_said path table (holds_rule c.args.self.now.world.now (names_for table) c.args.name.now spec) in

@@ -13,7 +13,7 @@ use Rattle.rule_formulas.proofs.together.ProviderBuilder.by_row_formula.Goals as
 
 pub returns : goal.returns
 returns c =
-    let table = c.args.self.now.table.now in
+    let table = c.args.self.now.scribe.table.now in
     let problem = c.args.self.now.problem.now in
     let virtual_name = c.args.virtual_name.now in
     let provider = c.args.provider.now in

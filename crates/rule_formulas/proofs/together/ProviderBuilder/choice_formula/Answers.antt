@@ -11,7 +11,7 @@ use Rattle.rule_formulas.proofs.together.ProviderBuilder.choice_formula.Goals as
 
 pub returns : goal.returns
 returns c =
-    let table = c.args.self.now.table.now in
+    let table = c.args.self.now.scribe.table.now in
     let problem = c.args.self.now.problem.now in
     let virtual_name = c.args.virtual_name.now in
     let provider = c.args.choice.now.0 in

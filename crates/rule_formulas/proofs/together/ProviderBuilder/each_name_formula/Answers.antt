@@ -13,7 +13,7 @@ use Rattle.rule_formulas.proofs.together.ProviderBuilder.each_name_formula.Goals
 
 pub returns : goal.returns
 returns c =
-    let table = c.args.self.now.table.now in
+    let table = c.args.self.now.scribe.table.now in
     let problem = c.args.self.now.problem.now in
     let name = c.args.name.now in
     let rule = λ (other : ProvideRow). no_other_rule (names_for table) name other.name in

@@ -18,7 +18,7 @@ use Rattle.rule_formulas.proofs.together.ProviderBuilder.no_other_formula.Goals 
 
 pub returns : goal.returns
 returns c =
-    let table = c.args.self.now.table.now in
+    let table = c.args.self.now.scribe.table.now in
     let virtual_name = c.args.virtual_name.now in
     let name = c.args.name.now in
     let rule = λ (n : Text). if_so (known_rule (fact (provides_as virtual_name n))) (known_rule (settled_test (bytes_eq n name))) in

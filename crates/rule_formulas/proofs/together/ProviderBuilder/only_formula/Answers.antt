@@ -13,7 +13,7 @@ use Rattle.rule_formulas.proofs.together.ProviderBuilder.only_formula.Goals as g
 
 pub returns : goal.returns
 returns c =
-    let table = c.args.self.now.table.now in
+    let table = c.args.self.now.scribe.table.now in
     let virtual_name = c.args.virtual_name.now in
     let other = c.args.choice.now.0 in
     let name = c.args.name.now in

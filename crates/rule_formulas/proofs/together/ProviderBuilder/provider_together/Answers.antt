@@ -23,7 +23,7 @@ told a b same test h = ap test (sym same) ∙ h
 
 pub returns-then-settings : goal.returns-then-settings
 returns-then-settings c =
-    let table = c.args.self.now.table.now in
+    let table = c.args.self.now.scribe.table.now in
     let problem = c.args.self.now.problem.now in
     let p : Text × Text = (c.args.virtual_name.now, c.args.provider.now) in
     ok-same c.rows_together.result

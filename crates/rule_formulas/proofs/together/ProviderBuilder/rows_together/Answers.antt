@@ -15,7 +15,7 @@ use Rattle.rule_formulas.proofs.together.ProviderBuilder.rows_together.Goals as 
 
 pub returns : goal.returns
 returns c =
-    let table = c.args.self.now.table.now in
+    let table = c.args.self.now.scribe.table.now in
     let problem = c.args.self.now.problem.now in
     let p : Text × Text = (c.args.virtual_name.now, c.args.provider.now) in
     let rule = λ (row : ProvideRow). by_row_rule problem (names_for table) p row in

@@ -8,7 +8,7 @@ use Rattle.rule_formulas.proofs.variants.VariantBuilder.+last_formula.Goals as g
 pub returns-then-times-eq0 : goal.returns-then-times-eq0
 returns-then-times-eq0 g t c =
     let condition = g.C.MetConditions.condition_of c.args.self.now.conditions.now in
-    let table = c.args.self.now.table.now in
+    let table = c.args.self.now.scribe.table.now in
     let name = c.args.self.now.name.now in
     let variant = c.args.self.now.variant.now in
     let rows = c.args.rows.now in
@@ -19,7 +19,7 @@ returns-then-times-eq0 g t c =
 pub returns-then-rows-le-SHORT : goal.returns-then-rows-le-SHORT
 returns-then-rows-le-SHORT g t c =
     let condition = g.C.MetConditions.condition_of c.args.self.now.conditions.now in
-    let table = c.args.self.now.table.now in
+    let table = c.args.self.now.scribe.table.now in
     let name = c.args.self.now.name.now in
     let variant = c.args.self.now.variant.now in
     let rows = c.args.rows.now in
@@ -30,7 +30,7 @@ returns-then-rows-le-SHORT g t c =
 pub returns : goal.returns
 returns g t c =
     let condition = g.C.MetConditions.condition_of c.args.self.now.conditions.now in
-    let table = c.args.self.now.table.now in
+    let table = c.args.self.now.scribe.table.now in
     let name = c.args.self.now.name.now in
     let variant = c.args.self.now.variant.now in
     let rows = c.args.rows.now in

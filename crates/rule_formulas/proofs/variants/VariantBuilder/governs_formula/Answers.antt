@@ -9,7 +9,7 @@ use Rattle.rule_formulas.proofs.variants.VariantBuilder.governs_formula.Goals as
 pub returns : goal.returns
 returns g c =
     let condition = g.C.MetConditions.condition_of c.args.self.now.conditions.now in
-    let table = c.args.self.now.table.now in
+    let table = c.args.self.now.scribe.table.now in
     let name = c.args.self.now.name.now in
     let variant = c.args.self.now.variant.now in
     let row = c.args.row.now in

@@ -1,0 +1,28 @@
+use Rattle.std.proofs.Common.{rules, sym, ap, ◌∙◌, Option}
+use Rattle.condition_rules.specs.Worlds.{World}
+use Rattle.graph_core.specs.Graphs.{Text}
+use Rattle.problem.specs.Problems.{world_of}
+use Rattle.graph_formulas.specs.Lists.{one_keeps}
+use Rattle.graph_formulas.specs.Parts.{asked_rule}
+use Rattle.graph_formulas.specs.Words.{names_for}
+use Rattle.graph_formulas.specs.Directives.{answer_rule, edge_to}
+use Rattle.word_formulas.specs.Asked.{NodeRule}
+use Rattle.word_formulas.specs.Builders.{plain_said}
+use Rattle.word_formulas.proofs.Steps.{ok-same}
+use Rattle.word_formulas.proofs.scribe.Scribe.edge_to_formula.Goals as goal
+
+pub returns-in-Some : goal.returns-in-Some
+returns-in-Some c =
+    let table = c.args.self.now.table.now in
+    let problem = c.args.problem.now in
+    let name = c.args.name.now in
+    let row = c.args.row.now in
+    let asked = c.in-Some.asked in
+    let keeps : NodeRule = λ (child : Text). answer_rule problem (names_for table) name row asked child in
+    let said = λ (w : World). plain_said table (asked_rule w (names_for table) asked keeps) in
+    let made = c.asked_formula.ensures keeps (λ x r says. search rules) in
+    ok-same c.asked_formula.result (said c.world-world.result) (plain_said table (edge_to problem (names_for table) name row))
+    (ap said c.world-world.ensures
+    ∙ sym (ap (λ (o : Option Text). plain_said table
+    (one_keeps o (λ (a : Text). asked_rule (world_of problem) (names_for table) a (answer_rule problem (names_for table) name row a))))
+    c.in-Some.is)) made
