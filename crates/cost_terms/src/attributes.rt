@@ -1,51 +1,17 @@
 //! The terms of the weights of attributes.
 ghost use Rattle.std.specs.Prelude.{◌≡◌, IfOk};
-ghost use Rattle.graph_rules.specs.Weights.{os_weight, target_weight, compiler_weight};
+ghost use Rattle.graph_rules.specs.Weights.{compiler_weight};
 ghost use Rattle.cost_terms.specs.Spread.{weighed_choices};
 ghost use Rattle.cost_terms.specs.Terms.{deprecated_terms, version_terms, os_terms, target_terms, compiler_terms};
 
 use crate::{Weighted, spread};
 use clause_store::Lit;
-use cost_vector::{compiler_weight, deprecated_weights, os_weight, target_weight, version_weights};
+use cost_vector::{compiler_weight, deprecated_weights, version_weights};
 use graph_core::Compiler;
 use literal_table::Block;
-use plain_data::Word;
+use place_weights::{os_weights, target_weights};
 use problem::Problem;
 use std::alloc::{AllocError, Global};
-
-// The weight of each OS that may be chosen.
-fn os_weights(
-    alloc: Global,
-    problem: &Problem,
-    choices: &[(Word, Lit)],
-) -> Result<Vec<(u64, Lit)>, AllocError>
-    ensures { IfOk result (λ weights. weights.items ≡ weighed_choices (os_weight problem.now)
-        choices.now) }
-{
-    let mut weights = Vec::new(alloc);
-    for choice in choices {
-        let weight = os_weight(problem, choice.0.as_str());
-        weights.push((weight as u64, choice.1))?;
-    }
-    Ok(weights)
-}
-
-// The weight of each target that may be chosen.
-fn target_weights(
-    alloc: Global,
-    problem: &Problem,
-    choices: &[(Word, Lit)],
-) -> Result<Vec<(u64, Lit)>, AllocError>
-    ensures { IfOk result (λ weights. weights.items
-        ≡ weighed_choices (target_weight problem.now) choices.now) }
-{
-    let mut weights = Vec::new(alloc);
-    for choice in choices {
-        let weight = target_weight(problem, choice.0.as_str());
-        weights.push((weight as u64, choice.1))?;
-    }
-    Ok(weights)
-}
 
 // The weight of each compiler that may be chosen.
 fn compiler_weights(

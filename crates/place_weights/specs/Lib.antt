@@ -1,0 +1,1 @@
+-- what public contracts say
