@@ -1,4 +1,5 @@
--- Demands by their numbers: what is asked for of the demands of a problem is among those with the numbers.
+-- Demands by their numbers: what is asked for of the demands of a problem is among those with the
+-- numbers.
 use Rattle.std.proofs.Common.{◌≡◌, refl, ap, ◌∙◌, ℕ, ◌+◌, suc, true, false, List, [], ◌∷◌, Option, Some, None, cond, inl, inr, Contains, arith}
 use Rattle.std.specs.Prelude.{◌||◌, slice_get}
 use Rattle.std.specs.List.{filter_map, cons_option}

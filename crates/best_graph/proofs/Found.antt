@@ -3,7 +3,7 @@ use Rattle.std.proofs.Common.{◌≡◌, sym, subst, ℕ, ◌<◌, ◌^◌, Bool
 use Rattle.clause_store.specs.Clauses.{Clauses}
 use Rattle.proof_log.specs.declared.line.Line.{Line}
 use Rattle.proof_log.specs.Lines.{AllLines}
-use Rattle.proof_log.specs.Texts.{may_write}
+use Rattle.proof_log.specs.Texts.{IsLine, may_write}
 use Rattle.clause_solver.specs.Models.{values_in}
 use Rattle.optimum_search.specs.Finding.{IsFound, IsBest}
 use Rattle.optimum_search.specs.declared.found.Found.TheVariants.{Optimal, Refuted, Spent}
@@ -22,13 +22,14 @@ use Rattle.best_graph.proofs.Least.{all, optimal, nothing}
 
 -- the rules alone: that no graph is valid, or that the budget was spent
 module _ (problem : Problem) (rules : Rules) (ruled : AreRules problem rules) (budget : ℕ) (log : List Line)
-    (writable : AllLines (λ line. may_write line ≡ true) log) where
+    (lines : AllLines IsLine log) (writable : AllLines (λ line. may_write line ≡ true) log) where
   -- a refutation of the rules: no graph
   pub nothing-answer : RulesDecode problem → IsFound rules.clauses [] budget (Refuted log) → IsBest rules.clauses [] budget (Refuted log)
       → IsAnswer problem budget (Nothing log)
   nothing-answer decodes found best = record {
     means = nothing problem (rule_clauses problem) (λ v. decode v (table_of problem)) decodes
         (subst (λ (s : Clauses). IsBest s [] budget (Refuted log)) ruled.clauses best);
+    lines = lines;
     writable = writable;
     shows = (decodes, subst (λ (s : Clauses). IsFound s [] budget (Refuted log)) ruled.clauses found);
   }
@@ -39,6 +40,7 @@ module _ (problem : Problem) (rules : Rules) (ruled : AreRules problem rules) (b
       → IsAnswer problem budget (Undecided log)
   stopped-answer finite decodes found best = record {
     means = (best.1, omega (arith, finite, best.1));
+    lines = lines;
     writable = writable;
     shows = inl (decodes, subst (λ (s : Clauses). SpentOver s [] budget log) ruled.clauses (found, best.0));
   }
@@ -46,7 +48,7 @@ module _ (problem : Problem) (rules : Rules) (ruled : AreRules problem rules) (b
 -- the encoding: a best graph, or that the budget was spent
 module _ (problem : Problem) (e : Encoded) (encoded : IsEncoded problem e) (built : e ≡ encoding_of problem) (budget : ℕ)
     (log : List Line) where
-  module _ (writable : AllLines (λ line. may_write line ≡ true) log) where
+  module _ (lines : AllLines IsLine log) (writable : AllLines (λ line. may_write line ≡ true) log) where
     -- the least bits: the best graph
     pub best-answer : (model : List Bool) (graph : Content) → IsFound e.clauses e.bits.lits budget (Optimal model log)
         → IsBest e.clauses e.bits.lits budget (Optimal model log) → graph ≡ decode (values_in model) e.table
@@ -54,6 +56,7 @@ module _ (problem : Problem) (e : Encoded) (encoded : IsEncoded problem e) (buil
     best-answer model graph found best same =
         let m = optimal problem e.clauses e.bits.lits (λ v. decode v e.table) encoded.encodes (values_in model) found.1 best in record {
           means = subst (λ g. IsWellFormed g × IsOptimal problem g) (sym same) m;
+          lines = lines;
           writable = writable;
           shows = (
             subst (IsEncoded problem) built encoded,
@@ -66,6 +69,7 @@ module _ (problem : Problem) (e : Encoded) (encoded : IsEncoded problem e) (buil
         → IsBest e.clauses e.bits.lits budget (Spent log) → IsAnswer problem budget (Undecided log)
     spent-answer finite found best = record {
       means = (best.1, omega (arith, finite, best.1));
+      lines = lines;
       writable = writable;
       shows = inr (
         subst (IsEncoded problem) built encoded,

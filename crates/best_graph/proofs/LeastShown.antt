@@ -88,7 +88,8 @@ valid-fewer problem some others g among ok =
 abbrev pub MeetsParts : Type 0
 MeetsParts = (s : Clauses) (ds : List ℕ) (v : ℕ → Bool) → MeetsAll v (clauses_for ds s) ↔ Meets (stands ds) v s.entries
 
--- what meets the clauses of the rules for some demands meets the structure of the table, so that it may be decoded
+-- what meets the clauses of the rules for some demands meets the structure of the table, so that it
+-- may be decoded
 abbrev pub IsStructuredFor : Problem → Type 0
 IsStructuredFor problem = (asked v : ℕ → Bool) → Meets asked v (rule_clauses problem).entries → IsStructured v (table_of problem)
 

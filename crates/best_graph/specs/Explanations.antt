@@ -20,7 +20,8 @@ pub record IsUnmet (problem : Problem) (numbers : List ℕ) : Type 0 where
   pub alone : (graph : Content) → IsWellFormed graph → valid_for (demands_at problem numbers) problem graph ≡ true → ⊥
   pub none : HasNoGraph problem
 
--- some graph is valid; or none is, for these demands; or the budget was spent, as none of 2^64 - 1 is
+-- some graph is valid; or none is, for these demands; or the budget was spent, as none of 2^64 - 1
+-- is
 abbrev pub Explains : Problem → ℕ → Explanation → Type 0
 Explains problem budget Satisfiable = HasGraph problem
 Explains problem budget (Unmet numbers log) = IsUnmet problem numbers

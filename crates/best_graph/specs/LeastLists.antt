@@ -27,24 +27,28 @@ HaveGraphs problem all [] (g ∷ gs) = ⊥
 HaveGraphs problem all (n ∷ ns) [] = ⊥
 HaveGraphs problem all (n ∷ ns) (g ∷ gs) = IsValidFor problem (without_number n all) g × HaveGraphs problem all ns gs
 
--- no graph is valid for these demands, and for each of them one is valid for all others: none can be left out
+-- no graph is valid for these demands, and for each of them one is valid for all others: none can
+-- be left out
 pub record IsLeastList (problem : Problem) (numbers : List ℕ) (graphs : List Content) : Type 0 where
   pub rising : IsRising numbers
   pub unmet : IsUnmet problem numbers
   pub each_needed : HaveGraphs problem numbers numbers graphs
 
--- some graph is valid; or none is, for these demands, of which none can be left out; or the budget was spent, as none of 2^64 - 1 is
+-- some graph is valid; or none is, for these demands, of which none can be left out; or the budget
+-- was spent, as none of 2^64 - 1 is
 abbrev pub ExplainsLeast : Problem → ℕ → LeastExplanation → Type 0
 ExplainsLeast problem budget Satisfiable = HasGraph problem
 ExplainsLeast problem budget (Least numbers graphs) = IsLeastList problem numbers graphs
 ExplainsLeast problem budget (Undecided numbers log) = budget < 2 ^ 64 - 1
 
--- these are all demands that label a clause of the problem's rules; or for them and one more no graph is valid
+-- these are all demands that label a clause of the problem's rules; or for them and one more no
+-- graph is valid
 abbrev pub AreOpen : Problem → List ℕ → Type 0
 AreOpen problem numbers =
     AreAll (rule_clauses problem) numbers ⊎ ((d : ℕ) × (stands numbers d ≡ false) × IsUnmet problem (d ∷ numbers))
 
--- the log spent the budget over the clauses of these demands; the budget is below 3 to the number of variables
+-- the log spent the budget over the clauses of these demands; the budget is below 3 to the number
+-- of variables
 pub record IsSpentOn (problem : Problem) (budget : ℕ) (numbers : List ℕ) (log : List Line) : Type 0 where
   pub rising : IsRising numbers
   pub spent : let part = clauses_for numbers (rule_clauses problem) in IsSpentLog part.vars (clauses_of part.entries) [] budget log

@@ -6,7 +6,7 @@ ghost use Rattle.proof_log.specs.Certificates.{AreOver};
 ghost use Rattle.proof_log.specs.Known.{AllClauses};
 ghost use Rattle.proof_log.specs.Lines.{AllLines};
 ghost use Rattle.proof_log.specs.Logs.{IsSound};
-ghost use Rattle.proof_log.specs.Texts.{may_write};
+ghost use Rattle.proof_log.specs.Texts.{IsLine, may_write};
 ghost use Rattle.optimum_search.specs.Finding.{IsFound};
 ghost use Rattle.possible_closure.specs.Closures.{closure_of};
 ghost use Rattle.problem_encoding.specs.Built.{encoding_of, rule_clauses};
@@ -16,18 +16,20 @@ ghost use Rattle.problem.specs.Limits.{is_within_limits, most_names};
 ghost use Rattle.best_graph.specs.Answers.{HasModel, IsAnswer};
 
 use crate::answer::Answer;
+use crate::lines::right_lines;
 use crate::meaning::meaning_laws;
 use crate::searched::rules_to_search;
 use clause_store::{ClauseList, Lit};
 use criteria_totals::{Bits, Terms};
 use graph_decoding::decode;
 use log_trim::trim_found;
-use optimum_search::{Found, Number, Progress, Stage, found_laws, search, search_by_numbers};
+use optimum_search::{Found, Number, Progress, Stage, found_laws, search};
 use plain_data::List;
 use possible_closure::Closure;
 use problem::Problem;
 use problem_encoding::{Encoded, Rules, number_ends, with_costs};
 use proof_log::{Log, written_laws};
+use staged_search::search_in_stages;
 use std::alloc::{AllocError, Global};
 
 /// The best graph of a problem, where the search may learn so many clauses. Externals and records
@@ -49,9 +51,19 @@ pub fn best_graph<P: Progress>(
     let rules = rules_to_search(alloc, problem, closure, progress)?;
     let found = search(alloc, &rules.clauses, &[], budget)?;
     let found = trim_found(alloc, &rules.clauses, &[], budget, found)?;
+    let start = start_from(alloc, &found)?;
     match settled(problem, &rules, budget, found) {
         Some(answer) => Ok(answer),
-        None => least(alloc, problem, rules, budget, progress),
+        None => least(alloc, problem, rules, start.as_slice(), budget, progress),
+    }
+}
+
+/// The values that the search for the least begins with: those of the model of the rules, where
+/// there is one.
+fn start_from(alloc: Global, found: &Found) -> Result<Vec<bool>, AllocError> {
+    match found {
+        Found::Optimal { model, .. } => Vec::from_slice(alloc, model.as_slice()),
+        _ => Ok(Vec::new(alloc)),
     }
 }
 
@@ -70,22 +82,25 @@ fn settled(_problem: &Problem, rules: &Rules, _budget: u64, found: Found) -> Opt
     match found {
         Found::Optimal { .. } => None,
         Found::Refuted { log } => {
+            is_of_lines(&log);
             is_writable(&rules.clauses, &log);
             Some(Answer::Nothing { log })
         }
         Found::Spent { log } => {
             is_finite(&log);
+            is_of_lines(&log);
             is_writable(&rules.clauses, &log);
             Some(Answer::Undecided { log })
         }
     }
 }
 
-/// The best graph, where there is one.
+/// The best graph, where there is one, by a search that begins near the values `start`.
 fn least<P: Progress>(
     alloc: Global,
     problem: &Problem,
     rules: Rules,
+    start: &[bool],
     budget: u64,
     progress: &mut P,
 ) -> Result<Answer, AllocError>
@@ -96,17 +111,21 @@ fn least<P: Progress>(
     requires limits { is_within_limits problem.now ≡ true }
     ensures { IfOk result (IsAnswer problem.now budget) }
 {
+    let (first_vars, first_clauses) = (rules.clauses.vars(), rules.clauses.len());
     let encoded = with_costs(alloc, problem, rules)?;
     progress.tell(Stage::Searching {
         variables: encoded.clauses.vars(),
         clauses: encoded.clauses.len(),
     });
     let numbers = numbers_of(alloc, &encoded.bits)?;
-    let found = search_by_numbers(
+    let found = search_in_stages(
         alloc,
         &encoded.clauses,
+        first_vars,
+        first_clauses,
         encoded.bits.lits(),
         numbers.as_slice(),
+        start,
         budget,
         progress,
     )?;
@@ -147,6 +166,13 @@ fn is_writable(clauses: &ClauseList, _log: &Log)
     let _count = clauses.vars();
 }
 
+/// The lines of a log in memory are as their types say.
+fn is_of_lines(log: &Log)
+    ensures { AllLines IsLine log.now }
+{
+    right_lines(log.lines());
+}
+
 /// A log in memory has fewer lines than 2^64.
 fn is_finite(log: &Log)
     ensures { length log.now < 2 ^ 64 }
@@ -175,12 +201,14 @@ fn answer_of(
     match found {
         Found::Optimal { model, log } => {
             let graph = decode(alloc, &encoded.table, model.as_slice())?;
+            is_of_lines(&log);
             is_writable(&encoded.clauses, &log);
             Ok(Answer::Best { graph, log })
         }
         Found::Refuted { log: _ } => unreachable!(),
         Found::Spent { log } => {
             is_finite(&log);
+            is_of_lines(&log);
             is_writable(&encoded.clauses, &log);
             Ok(Answer::Undecided { log })
         }

@@ -19,6 +19,7 @@ mod best;
 mod explanation;
 mod least_explanation;
 mod least_reasons;
+mod lines;
 mod meaning;
 mod reasons;
 mod searched;

@@ -20,8 +20,8 @@ use Rattle.clause_solver.specs.declared.outcome.Outcome.TheVariants as outcome
 use Rattle.clause_solver.specs.declared.choice.Move.TheVariants as move
 use Rattle.clause_solver.specs.Seen.{AreClear}
 use Rattle.clause_solver.specs.Models.{IsModelOf}
-use Rattle.clause_solver.specs.Solvers.{SolverValue, IsInOrder, IsLogOf, Adds, Answers, IsFalseIn}
-use Rattle.clause_solver.specs.Searches.{value_of, IsSearch, IsAssumed, IsReady, IsStep, IsNext, IsFalseOn, Learns, measure_of}
+use Rattle.clause_solver.specs.Solvers.{SolverValue, IsInOrder, IsLogOf, Adds, Answers, Ends, IsFalseIn}
+use Rattle.clause_solver.specs.Searches.{value_of, IsSearch, IsAssumed, IsReady, IsStep, IsTurn, IsNext, IsFalseOn, Learns, measure_of}
 use Rattle.clause_solver.proofs.Growing.{search-watch, search-turn, adds-watch, search-grown, adds-last, Adds-trans}
 use Rattle.clause_watch.proofs.Places.{upto-place, place-upto, get-front}
 use Rattle.clause_solver.proofs.ModelLaws.{false-here, model-meets}
@@ -99,10 +99,10 @@ spends s t u a budget r h lt watch log inputs bits given model learnt seen =
     )
 
 -- a decision
-pub decided : (s : Search) (w : WatchValue) (o : HeapValue) (l : Lit) (a : Option (ℕ × Lit)) (budget : ℕ) → IsReady s a budget
-    → IsNext s.watch.placed s.watch.vars a (move.Decide l) → w ≡ with_next s.watch l None
+pub decided : (s : Search) (w : WatchValue) (o : HeapValue) (l : Lit) (a : Option (ℕ × Lit)) (budget reach : ℕ) → IsReady s a budget
+    → IsNext s.watch.placed s.watch.vars reach a (move.Decide l) → w ≡ with_next s.watch l None
     → IsStep s (record s { watch = w; heap = o }) a budget None
-decided s w o l a budget r h e =
+decided s w o l a budget reach r h e =
     let clauses : w.clauses ≡ s.watch.clauses = ap (λ (v : WatchValue). v.clauses) e in
     let vars : w.vars ≡ s.watch.vars = ap (λ (v : WatchValue). v.vars) e in
     let placed : w.placed ≡ s.watch.placed ++ next s.watch.placed l None ∷ [] = ap (λ (v : WatchValue). v.placed) e in (
@@ -124,11 +124,12 @@ false-in ps n cs model None right m h = tt
 false-in ps n cs model (Some a) right m h = false-here ps n model right.orderly m a.1 h
 
 -- a model is found where all variables have values and nothing follows
-pub finished : (s t : Search) (a : Option (ℕ × Lit)) (budget : ℕ) → IsWatch s.watch.vars s.watch.clauses s.watch.placed → IsReady s a budget
-    → IsSettled (lits_of s.watch.placed) s.watch.clauses → IsNext s.watch.placed s.watch.vars a move.Finish →
+pub finished : (s t : Search) (a : Option (ℕ × Lit)) (budget reach : ℕ) → IsWatch s.watch.vars s.watch.clauses s.watch.placed
+    → IsReady s a budget
+    → IsSettled (lits_of s.watch.placed) s.watch.clauses → IsNext s.watch.placed s.watch.vars reach a move.Finish →
     IsModelOf s.watch.placed s.watch.vars t.model.items → t.watch ≡ s.watch → t.log ≡ s.log → t.inputs ≡ s.inputs → t.bits ≡ s.bits
-    → t.given ≡ s.given → t.learnt ≡ s.learnt → t.seen ≡ s.seen → IsStep s t a budget (Some outcome.Model)
-finished s t a budget right r settled h m watch log inputs bits given learnt seen = (
+    → t.given ≡ s.given → t.learnt ≡ s.learnt → t.seen ≡ s.seen → IsTurn reach s t a budget (Some outcome.Model)
+finished s t a budget reach right r settled h m watch log inputs bits given learnt seen = (
   (
     record {
       adds = record {
@@ -142,7 +143,8 @@ finished s t a budget right r settled h m watch log inputs bits given learnt see
         lines = log ∙ sym (append-nil s.log);
       };
       whole = rw watch m.whole;
-      meets = rw watch (model-meets s.watch.placed s.watch.vars t.model.items right.orderly m s.watch.clauses h.0 right.in_range settled);
+      meets = rw watch (λ le. model-meets s.watch.placed s.watch.vars t.model.items right.orderly m s.watch.clauses (h.0 le)
+          right.in_range settled);
       assumed = false-in s.watch.placed s.watch.vars s.watch.clauses t.model.items a right m h.1;
     },
     rw log r.in_budget,
@@ -178,6 +180,57 @@ Answers-after a b c assumption budget outcome.Model f h = (
 Answers-after a b c assumption budget outcome.Refuted f h = ((h.0.0, h.0.1, Adds-trans a b c _ (Some h.0.0) f h.0.2), h.1, h.2)
 Answers-after a b c assumption budget outcome.Spent f h = (Adds-trans a b c None (Some line.Spent) f h.0, h.1)
 
+pub Ends-after : (reach : ℕ) (a b c : SolverValue) (assumption : Option (ℕ × Lit)) (budget : ℕ) (o : Outcome) → Adds a b None None
+    → Ends reach b c assumption budget o → Ends reach a c assumption budget o
+Ends-after reach a b c assumption budget outcome.Model f h = (
+  record {
+    adds = subst (λ m. Adds a (record c { model = m }) None None) f.model
+        (Adds-trans a b (record c { model = b.model }) None None f h.0.adds);
+    whole = h.0.whole;
+    meets = h.0.meets;
+    assumed = h.0.assumed;
+  },
+  h.1,
+  h.2,
+)
+Ends-after reach a b c assumption budget outcome.Refuted f h = Answers-after a b c assumption budget outcome.Refuted f h
+Ends-after reach a b c assumption budget outcome.Spent f h = Answers-after a b c assumption budget outcome.Spent f h
+
+-- what is answered of all variables is so of fewer, and where the reach is all variables it is the same
+pub ends-of : (reach : ℕ) (a b : SolverValue) (assumption : Option (ℕ × Lit)) (budget : ℕ) (o : Outcome)
+    → Answers a b assumption budget o → Ends reach a b assumption budget o
+ends-of reach a b assumption budget outcome.Model h = (
+  record { adds = h.0.adds; whole = h.0.whole; meets = λ le. h.0.meets; assumed = h.0.assumed },
+  h.1,
+  h.2,
+)
+ends-of reach a b assumption budget outcome.Refuted h = h
+ends-of reach a b assumption budget outcome.Spent h = h
+
+pub answers-of : (reach : ℕ) (a b : SolverValue) (assumption : Option (ℕ × Lit)) (budget : ℕ) (o : Outcome) → reach ≡ a.vars
+    → Ends reach a b assumption budget o → Answers a b assumption budget o
+answers-of reach a b assumption budget outcome.Model e h = (
+  record {
+    adds = h.0.adds;
+    whole = h.0.whole;
+    meets = let v : b.vars ≡ a.vars = h.0.adds.vars in h.0.meets (omega (arith, v, e));
+    assumed = h.0.assumed;
+  },
+  h.1,
+  h.2,
+)
+answers-of reach a b assumption budget outcome.Refuted e h = h
+answers-of reach a b assumption budget outcome.Spent e h = h
+
+pub step-of : (reach : ℕ) (s t : Search) (a : Option (ℕ × Lit)) (budget : ℕ) (o : Outcome) → reach ≡ s.watch.vars
+    → IsTurn reach s t a budget (Some o) → IsStep s t a budget (Some o)
+step-of reach s t a budget o e h = (answers-of reach (value_of false s) (value_of false t) a budget o e h.0, h.1)
+
+pub turn-of : (reach : ℕ) (s t : Search) (a : Option (ℕ × Lit)) (budget : ℕ) (o : Option Outcome) → IsStep s t a budget o
+    → IsTurn reach s t a budget o
+turn-of reach s t a budget None h = h
+turn-of reach s t a budget (Some o) h = (ends-of reach (value_of false s) (value_of false t) a budget o h.0, h.1)
+
 -- a step after a propagation is a step of both
 pub IsStep-after : (s t u : Search) (a : Option (ℕ × Lit)) (budget : ℕ) (o : Option Outcome)
     → Adds (value_of false s) (value_of false t) None None → measure_of budget t ≤ measure_of budget s → IsStep t u a budget o
@@ -185,6 +238,13 @@ pub IsStep-after : (s t u : Search) (a : Option (ℕ × Lit)) (budget : ℕ) (o 
 IsStep-after s t u a budget None f le h =
     (Adds-trans (value_of false s) (value_of false t) (value_of false u) None None f h.0, h.1, (let l = h.2 in omega (arith, le, l)))
 IsStep-after s t u a budget (Some o) f le h = (Answers-after (value_of false s) (value_of false t) (value_of false u) a budget o f h.0, h.1)
+
+pub IsTurn-after : (reach : ℕ) (s t u : Search) (a : Option (ℕ × Lit)) (budget : ℕ) (o : Option Outcome)
+    → Adds (value_of false s) (value_of false t) None None → measure_of budget t ≤ measure_of budget s → IsTurn reach t u a budget o
+    → IsTurn reach s u a budget o
+IsTurn-after reach s t u a budget None f le h = IsStep-after s t u a budget None f le h
+IsTurn-after reach s t u a budget (Some o) f le h =
+    (Ends-after reach (value_of false s) (value_of false t) (value_of false u) a budget o f h.0, h.1)
 
 -- propagation
 module _ (s : Search) (w : WatchValue) (a : Option (ℕ × Lit)) (budget : ℕ) (r : IsReady s a budget) (p : Propagated s.watch w) where

@@ -2,6 +2,7 @@
 use Rattle.std.proofs.Common.{◌≡◌, ℕ, suc, false, List, [], ◌∷◌, ◌++◌, length, take, refl, sym, ap, ◌∙◌, subst, arith}
 use Rattle.std.proofs.lemmas.List.{take_all}
 use Rattle.clause_store.specs.declared.list.Entry.{Entry}
+use Rattle.clause_store.specs.declared.Lit.{Lit}
 use Rattle.clause_store.specs.Clauses.{Clauses, clauses_of}
 use Rattle.proof_log.specs.declared.line.Line.{Line}
 use Rattle.proof_log.specs.declared.line.Line.TheVariants as line
@@ -9,7 +10,8 @@ use Rattle.clause_watch.specs.Watches.{WatchValue}
 use Rattle.clause_solver.specs.declared.search.Search.{Search}
 use Rattle.clause_solver.specs.Seen.{AreClear}
 use Rattle.clause_solver.specs.Solvers.{IsLogOf, start_of}
-use Rattle.clause_solver.specs.Searches.{value_of, IsSearch}
+use Rattle.proof_log.specs.Logs.{IsGrowing}
+use Rattle.clause_solver.specs.Searches.{value_of, IsSearch, BeginsAnew}
 
 length-clauses : (es : List Entry) → length (clauses_of es) ≡ length es
 length-clauses [] = refl
@@ -49,3 +51,29 @@ module _ (s : Clauses) (bits : ℕ) (t : Search)
 pub header-is : (old new : List Line) (v w n m bits : ℕ) → old ≡ [] → new ≡ old ++ line.Header v n bits ∷ [] → v ≡ w → n ≡ m
     → new ≡ line.Header w m bits ∷ []
 header-is old new v w n m bits a b e f = b ∙ rw (a, e, f) refl
+
+-- a log with its Header alone, over what is known
+growing-start : (vars bits : ℕ) (known : List (List Lit)) → IsGrowing vars known bits [] known (line.Header vars (length known) bits ∷ [])
+growing-start vars bits known = record {
+  settled = refl;
+  sound = λ more h. (ap (line.Header vars (length known)) (sym h), tt, tt);
+  useful = λ more. (tt, tt);
+  knows = λ more. refl;
+}
+
+-- a search whose log begins anew
+pub begun-anew : (s t : Search) → IsSearch s → t.watch.vars ≡ s.watch.vars
+    → t.log ≡ line.Header t.watch.vars (length t.watch.clauses) t.bits ∷ [] → t.inputs ≡ length t.watch.clauses → t.given.items ≡ []
+    → t.learnt ≡ 0 → t.seen ≡ s.seen → BeginsAnew s t
+begun-anew s t h vars log inputs given learnt seen =
+    let cs : List (List Lit) = t.watch.clauses in
+    let all : take (length cs) cs ≡ cs = take_all (length cs) cs (omega arith) in record {
+      search = record {
+        log = rw (log, given, inputs) (rw all (growing-start t.watch.vars t.bits cs));
+        inputs = omega (arith, inputs);
+        learnt = rw log learnt;
+        seen = rw (seen, vars) h.seen;
+        unseen = rw seen h.unseen;
+      };
+      is = record { vars = vars; given = given; open_log = rw log (refl, tt); none_learnt = rw log refl };
+    }

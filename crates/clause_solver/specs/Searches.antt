@@ -15,7 +15,7 @@ use Rattle.clause_solver.specs.declared.outcome.Outcome.{Outcome}
 use Rattle.clause_solver.specs.declared.choice.Move.{Move}
 use Rattle.clause_solver.specs.declared.choice.Move.TheVariants as move
 use Rattle.clause_solver.specs.Models.{HaveValues}
-use Rattle.clause_solver.specs.Solvers.{SolverValue, IsLogOf, IsInOrder, Adds, Answers, Refutes, Fixes, StaysOpen}
+use Rattle.clause_solver.specs.Solvers.{SolverValue, IsLogOf, IsInOrder, Adds, Answers, Ends, IsAnew, Refutes, Fixes, StaysOpen}
 
 abbrev pub value_of : Bool → Search → SolverValue
 value_of failed s = record {
@@ -63,11 +63,11 @@ abbrev pub IsTrueOn : List Placed → Option (ℕ × Lit) → Type 0
 IsTrueOn placed None = ⊥
 IsTrueOn placed (Some a) = has (lits_of placed) a.1 ≡ true
 
-abbrev pub IsNext : List Placed → ℕ → Option (ℕ × Lit) → Move → Type 0
-IsNext placed vars assumption (move.Decide l) = (var_of l < vars) × (has_var (lits_of placed) (var_of l) ≡ false)
+abbrev pub IsNext : List Placed → ℕ → ℕ → Option (ℕ × Lit) → Move → Type 0
+IsNext placed vars reach assumption (move.Decide l) = (var_of l < vars) × (has_var (lits_of placed) (var_of l) ≡ false)
     × IsAssumed (placed ++ next placed l None ∷ []) assumption
-IsNext placed vars assumption move.Refute = IsTrueOn placed assumption
-IsNext placed vars assumption move.Finish = HaveValues placed vars × IsFalseOn placed assumption
+IsNext placed vars reach assumption move.Refute = IsTrueOn placed assumption
+IsNext placed vars reach assumption move.Finish = (vars ≤ reach → HaveValues placed vars) × IsFalseOn placed assumption
 
 -- where the loop of the search is
 pub record IsReady (s : Search) (assumption : Option (ℕ × Lit)) (budget : ℕ) : Type 0 where
@@ -112,3 +112,12 @@ abbrev pub IsStep : Search → Search → Option (ℕ × Lit) → ℕ → Option
 IsStep old new assumption budget None = Adds (value_of false old) (value_of false new) None None × IsReady new assumption budget
     × (measure_of budget new < measure_of budget old)
 IsStep old new assumption budget (Some o) = Answers (value_of false old) (value_of false new) assumption budget o × IsSearch new
+
+-- one turn of a loop whose models reach so far
+abbrev pub IsTurn : ℕ → Search → Search → Option (ℕ × Lit) → ℕ → Option Outcome → Type 0
+IsTurn reach old new assumption budget None = IsStep old new assumption budget None
+IsTurn reach old new assumption budget (Some o) = Ends reach (value_of false old) (value_of false new) assumption budget o × IsSearch new
+
+pub record BeginsAnew (old new : Search) : Type 0 where
+  pub search : IsSearch new
+  pub is : IsAnew (value_of false old) (value_of false new)

@@ -49,6 +49,13 @@ pub record FindsModel (old new : SolverValue) (assumption : Option (ℕ × Lit))
   pub meets : AllTrue (values_in new.model) new.known
   pub assumed : IsFalseIn new.model assumption
 
+-- values of the variables below a reach, where nothing follows from them: a model, if that is all variables
+pub record FindsWithin (reach : ℕ) (old new : SolverValue) (assumption : Option (ℕ × Lit)) : Type 0 where
+  pub adds : Adds old (record new { model = old.model }) None None
+  pub whole : length new.model ≡ new.vars
+  pub meets : new.vars ≤ reach → AllTrue (values_in new.model) new.known
+  pub assumed : IsFalseIn new.model assumption
+
 -- the line that refutes the assumption, or all
 abbrev pub Closes : Option (ℕ × Lit) → Line → Type 0
 Closes None (line.Unsat chain) = Unit {0}
@@ -80,6 +87,20 @@ Answers old new assumption budget outcome.Model = FindsModel old new assumption 
 Answers old new assumption budget outcome.Refuted = Refutes old new assumption × (learnt_in new.lines ≤ budget)
     × StaysOpen assumption new.lines
 Answers old new assumption budget outcome.Spent = Adds old new None (Some line.Spent) × (learnt_in new.lines ≡ budget + 1)
+
+-- the same where a model reaches so far
+abbrev pub Ends : ℕ → SolverValue → SolverValue → Option (ℕ × Lit) → ℕ → Outcome → Type 0
+Ends reach old new assumption budget outcome.Model = FindsWithin reach old new assumption × (learnt_in new.lines ≤ budget)
+    × IsOpen new.lines
+Ends reach old new assumption budget outcome.Refuted = Answers old new assumption budget outcome.Refuted
+Ends reach old new assumption budget outcome.Spent = Answers old new assumption budget outcome.Spent
+
+-- the log begins anew, over what is known and perhaps more
+pub record IsAnew (old new : SolverValue) : Type 0 where
+  pub vars : new.vars ≡ old.vars
+  pub given : new.given ≡ []
+  pub open_log : IsOpen new.lines
+  pub none_learnt : learnt_in new.lines ≡ 0
 
 -- the assumed bit is the next one, and its literal is over the variables
 abbrev pub IsInOrder : SolverValue → Option (ℕ × Lit) → Type 0

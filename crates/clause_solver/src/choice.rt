@@ -1,5 +1,5 @@
 //! Which literal is decided next. No proof rests on the choice: any variable without value will do.
-ghost use Rattle.std.specs.Prelude.{◌≡◌, ℕ, ◌<◌, min, Some, IfSome, IfNone, IfOk, false, true, length, unwrap_or};
+ghost use Rattle.std.specs.Prelude.{◌≡◌, ℕ, ◌<◌, ◌≤◌, min, Some, IfSome, IfNone, IfOk, false, true, length, unwrap_or};
 ghost use Rattle.std.specs.List.{find};
 ghost use Rattle.std.specs.Option.{option_map};
 ghost use Rattle.clause_store.specs.Lits.{var_of, negation};
@@ -31,12 +31,15 @@ fn active(watch: &Watch, heap: &mut VariableHeap) -> Option<usize>
     None
 }
 
-/// The lowest variable without value, from the heap's low one on.
-fn lowest(watch: &Watch, heap: &mut VariableHeap) -> Option<usize>
+/// The lowest variable without value below the reach, from the heap's low one on.
+fn lowest(watch: &Watch, heap: &mut VariableHeap, reach: usize) -> Option<usize>
     ensures in_range { IfSome result (λ x. x < watch.now.vars) }
     ensures free { IfSome result (λ x. has_var (lits_of watch.now.placed) x ≡ false) }
 {
     for x in heap.low()..watch.vars() {
+        if x >= reach {
+            return None;
+        }
         match watch.value(Var(x as u64)) {
             Some(_) => {}
             None => {
@@ -49,13 +52,13 @@ fn lowest(watch: &Watch, heap: &mut VariableHeap) -> Option<usize>
 }
 
 /// The most active variable of those that wait, and else the lowest one, that has no value.
-fn soonest(watch: &Watch, heap: &mut VariableHeap) -> Option<usize>
+fn soonest(watch: &Watch, heap: &mut VariableHeap, reach: usize) -> Option<usize>
     ensures in_range { IfSome result (λ x. x < watch.now.vars) }
     ensures free { IfSome result (λ x. has_var (lits_of watch.now.placed) x ≡ false) }
 {
     match active(watch, heap) {
         Some(x) => Some(x),
-        None => lowest(watch, heap),
+        None => lowest(watch, heap, reach),
     }
 }
 
@@ -78,23 +81,27 @@ fn negated_first(watch: &Watch, first: &[Lit]) -> Option<Lit>
 }
 
 /// The negation of the first of some literals without value; or else a variable without value, with
-/// its last one: the most active of those that wait, or the lowest.
-pub fn choose(watch: &Watch, heap: &mut VariableHeap, first: &[Lit]) -> Option<Lit>
+/// its last one: the most active of those that wait, or the lowest below the reach.
+pub fn choose(watch: &Watch, heap: &mut VariableHeap, first: &[Lit], reach: usize) -> Option<Lit>
     ensures in_range { IfSome result (λ l. var_of l < watch.now.vars) }
     ensures free { IfSome result (λ l. has_var (lits_of watch.now.placed) (var_of l) ≡ false) }
-    ensures none { IfNone result (HaveValues watch.now.placed watch.now.vars) }
+    ensures none { IfNone result
+        (watch.now.vars ≤ reach → HaveValues watch.now.placed watch.now.vars) }
     ensures first { IfSome (find (is_open watch.now.placed watch.now.vars) first.now)
         (λ l. result ≡ Some (negation l)) }
 {
     if let Some(lit) = negated_first(watch, first) {
         return Some(lit);
     }
-    if let Some(x) = soonest(watch, heap) {
+    if let Some(x) = soonest(watch, heap, reach) {
         let positive = heap.phase(x);
         return Some(Lit {
             var: Var(x as u64),
             positive,
         });
+    }
+    if reach < watch.vars() {
+        return None;
     }
     for x in 0..watch.vars() {
         let var = Var(x as u64);
@@ -116,16 +123,18 @@ pub enum Move {
     Finish,
 }
 
-/// The assumed literal is decided before all others, at false.
+/// The assumed literal is decided before all others, at false. The search is over where each
+/// variable below the reach has a value.
 pub fn next(
     watch: &Watch,
     heap: &mut VariableHeap,
     first: &[Lit],
     assumption: Option<(u64, Lit)>,
+    reach: usize,
 ) -> Move
     requires in_range { IsOver watch.now.vars assumption }
     requires assumed { IsAssumed watch.now.placed assumption }
-    ensures { IsNext watch.now.placed watch.now.vars assumption result }
+    ensures { IsNext watch.now.placed watch.now.vars reach assumption result }
 {
     if let Some((_, lit)) = assumption {
         let _ = watch.depth();
@@ -138,7 +147,7 @@ pub fn next(
             }
         }
     }
-    match choose(watch, heap, first) {
+    match choose(watch, heap, first, reach) {
         Some(lit) => Move::Decide(lit),
         None => Move::Finish,
     }

@@ -11,6 +11,7 @@
 #![tactic(auto)]
 
 mod analysis;
+mod anew;
 mod choice;
 mod outcome;
 mod restarts;

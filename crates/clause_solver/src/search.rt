@@ -9,7 +9,7 @@ ghost use Rattle.clause_watch.specs.Watches.{IsWatch};
 ghost use Rattle.clause_watch.specs.Reasons.{NamesFalse};
 ghost use Rattle.clause_solver.specs.Solvers.{IsLogOf, Adds, Answers, IsInOrder, Refutes};
 ghost use Rattle.clause_solver.specs.Learning.{IsKnown};
-ghost use Rattle.clause_solver.specs.Searches.{value_of, IsSearch, IsReady, IsAssumed, IsTrueOn, Learns, Rests, IsClosed, IsFixed, IsStep, IsPlaceOf};
+ghost use Rattle.clause_solver.specs.Searches.{value_of, IsSearch, IsReady, IsAssumed, IsTrueOn, Learns, Rests, IsClosed, IsFixed, IsStep, IsTurn, IsPlaceOf};
 ghost use Rattle.proof_log.specs.Known.{has_var};
 ghost use Rattle.proof_log.specs.Usefulness.{IsSettled};
 
@@ -174,16 +174,18 @@ impl Search {
         &mut self,
         assumption: Option<(u64, Lit)>,
         budget: u64,
+        reach: usize,
     ) -> Result<Option<Outcome>, AllocError>
         requires ready { IsReady self.old assumption budget }
         requires settled { IsSettled (lits_of self.old.watch.placed) self.old.watch.clauses }
-        ensures { IfOk result (IsStep self.old self.new assumption budget) }
+        ensures { IfOk result (IsTurn reach self.old self.new assumption budget) }
     {
         match next(
             &self.watch,
             &mut self.heap,
             self.first.as_slice(),
             assumption,
+            reach,
         ) {
             Move::Decide(lit) => {
                 self.watch.decide(lit)?;
@@ -206,17 +208,40 @@ impl Search {
         &mut self,
         assumption: Option<(u64, Lit)>,
         budget: u64,
+        reach: usize,
     ) -> Result<Option<Outcome>, AllocError>
         requires { IsReady self.old assumption budget }
-        ensures { IfOk result (IsStep self.old self.new assumption budget) }
+        ensures { IfOk result (IsTurn reach self.old self.new assumption budget) }
     {
         match self.watch.propagate()? {
             Some(conflict) => self.meet(assumption, budget, conflict),
-            None => self.go_on(assumption, budget),
+            None => self.go_on(assumption, budget, reach),
         }
     }
 
-    /// Searches until a model, a refutation, or the end of the budget.
+    /// Searches until a model, a refutation, or the end of the budget. A model gives a value to each
+    /// variable below the reach; those above, where none has a clause yet, need none.
+    pub fn run_within(
+        &mut self,
+        assumption: Option<(u64, Lit)>,
+        budget: u64,
+        reach: usize,
+    ) -> Result<Outcome, AllocError>
+        requires search { IsSearch self.old }
+        requires open_log { IsOpen self.old.log }
+        requires in_budget { learnt_in self.old.log ≤ budget }
+        requires in_order { IsInOrder (value_of false self.old) assumption }
+        ensures { IfOk result (λ o. IsTurn reach self.old self.new assumption budget (Some o)) }
+    {
+        backtrack(&mut self.watch, &mut self.heap, 0);
+        loop {
+            if let Some(outcome) = self.step(assumption, budget, reach)? {
+                return Ok(outcome);
+            }
+        }
+    }
+
+    /// Searches until a model of all variables, a refutation, or the end of the budget.
     pub fn run(
         &mut self,
         assumption: Option<(u64, Lit)>,
@@ -228,12 +253,8 @@ impl Search {
         requires in_order { IsInOrder (value_of false self.old) assumption }
         ensures { IfOk result (λ o. IsStep self.old self.new assumption budget (Some o)) }
     {
-        backtrack(&mut self.watch, &mut self.heap, 0);
-        loop {
-            if let Some(outcome) = self.step(assumption, budget)? {
-                return Ok(outcome);
-            }
-        }
+        let reach = self.watch.vars();
+        self.run_within(assumption, budget, reach)
     }
 
     /// Settles a bit at 0.
@@ -251,29 +272,6 @@ impl Search {
         self.log.push(Line::Zero { id, bit })?;
         self.given.push(lit)?;
         Ok(())
-    }
-}
-
-impl Search {
-    /// The log.
-    pub fn into_log(self) -> Log
-        ensures { result ≡ self.log }
-    {
-        let Search {
-            log,
-            alloc: _,
-            watch: _,
-            inputs: _,
-            bits: _,
-            given: _,
-            learnt: _,
-            model: _,
-            seen: _,
-            heap: _,
-            restarts: _,
-            first: _,
-        } = self;
-        log
     }
 }
 

@@ -3,7 +3,7 @@ ghost use Rattle.std.specs.Prelude.{◌≡◌, ◌<◌, ◌≤◌, length, IfOk,
 ghost use Rattle.clause_store.specs.Lits.{var_of};
 ghost use Rattle.proof_log.specs.Lines.{IsOpen, learnt_in};
 ghost use Rattle.proof_log.specs.Known.{AllClauses, AllOver};
-ghost use Rattle.clause_solver.specs.Solvers.{IsLogOf, Answers, Fixes, IsInOrder, start_of};
+ghost use Rattle.clause_solver.specs.Solvers.{IsLogOf, Answers, Ends, Fixes, IsAnew, IsInOrder, start_of};
 
 use crate::Outcome;
 use crate::choice::prefer_false;
@@ -158,6 +158,76 @@ impl Solver {
         let _ = self.search.watch.depth();
         self.failed = false;
         Ok(outcome)
+    }
+
+    /// The same, where a model gives a value to each variable below the reach alone. It meets all
+    /// known clauses if these are all variables; nothing is promised of it else.
+    pub fn solve_within(
+        &mut self,
+        assumption: Option<(u64, Lit)>,
+        budget: u64,
+        reach: usize,
+    ) -> Result<Outcome, AllocError>
+        requires open_log { IsOpen self.old.lines }
+        requires in_budget { learnt_in self.old.lines ≤ budget }
+        requires in_order { IsInOrder self.old assumption }
+        ensures ends { IfOk result (Ends reach self.old self.new assumption budget) }
+        ensures ok { OnOk result (self.new.failed ≡ false) }
+        ensures err { OnErr result (self.new.failed ≡ true) }
+        ensures failed { self.old.failed ≡ true → IsErr result }
+    {
+        if self.failed {
+            return Err(AllocError);
+        }
+        self.failed = true;
+        let outcome = self.search.run_within(assumption, budget, reach)?;
+        self.failed = false;
+        Ok(outcome)
+    }
+
+    /// From now on the clauses of a list from a place on, below another, are known, too. The log
+    /// begins anew over all that is known, with the ids that it has, and no bit is settled in it;
+    /// the log so far comes back. A clause that is not over the variables is passed over.
+    pub fn begin_anew(
+        &mut self,
+        clauses: &ClauseList,
+        from: u64,
+        to: u64,
+    ) -> Result<Log, AllocError>
+        ensures anew { OnOk result (IsAnew self.old self.new) }
+        ensures ok { OnOk result (self.new.failed ≡ false) }
+        ensures err { OnErr result (self.new.failed ≡ true) }
+        ensures failed { self.old.failed ≡ true → IsErr result }
+    {
+        if self.failed {
+            return Err(AllocError);
+        }
+        self.failed = true;
+        let log = self.search.begin_anew(clauses, from, to)?;
+        self.failed = false;
+        Ok(log)
+    }
+
+    /// The variable of a literal is next decided so that the literal is true, unless it had another
+    /// value since. What is answered does not rest on it.
+    pub fn expect(&mut self, lit: Lit)
+        ensures { self.new ≡ self.old }
+    {
+        self.search.heap.reinsert(lit.var.0 as usize, lit.positive);
+    }
+
+    /// How many bits are settled.
+    pub fn settled(&self) -> u64
+        ensures { result ≡ length self.now.given }
+    {
+        self.search.given.len() as u64
+    }
+
+    /// How many variables there are.
+    pub fn vars(&self) -> usize
+        ensures { result ≡ self.now.vars }
+    {
+        self.search.watch.vars()
     }
 
     /// The last model, empty before the first.

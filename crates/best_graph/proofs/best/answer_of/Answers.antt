@@ -19,7 +19,7 @@ returns-in_ok-graph-in-Optimal c =
     let found : IsFound e.clauses e.bits.lits c.args._budget (Optimal c.in-Optimal.model c.in-Optimal.log) =
     subst (IsFound e.clauses e.bits.lits c.args._budget) c.in-Optimal.is c.requires.found in
     best-answer c.args._problem.now e c.requires.encoded c.requires.built c.args._budget c.in-Optimal.log
-    (c.is_writable.ensures e.bits.lits found.2.sound found.3)
+    c.is_of_lines.ensures (c.is_writable.ensures e.bits.lits found.2.sound found.3)
     c.in-Optimal.model c.in_ok-graph-in-Optimal.graph found
     (c.found_laws.ensures e.clauses e.bits.lits c.args._budget (Optimal c.in-Optimal.model c.in-Optimal.log) c.requires.in_order found)
     (c.in_ok-graph-in-Optimal.ensures ∙ ap (λ values. decode (assignment_of values) e.table) c.as_slice.ensures)
@@ -38,5 +38,5 @@ returns-in-Spent c =
     let found : IsFound e.clauses e.bits.lits c.args._budget (Spent c.in-Spent.log) =
     subst (IsFound e.clauses e.bits.lits c.args._budget) c.in-Spent.is c.requires.found in
     spent-answer c.args._problem.now e c.requires.encoded c.requires.built c.args._budget c.in-Spent.log
-    (c.is_writable-in-Spent.ensures e.bits.lits found.sound found.in_range) (c.is_finite.ensures) found
+    c.is_of_lines-in-Spent.ensures (c.is_writable-in-Spent.ensures e.bits.lits found.sound found.in_range) (c.is_finite.ensures) found
     (c.found_laws.ensures e.clauses e.bits.lits c.args._budget (Spent c.in-Spent.log) c.requires.in_order found)

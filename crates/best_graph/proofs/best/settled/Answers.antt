@@ -19,7 +19,7 @@ returns-in-Refuted-clause-answer c =
     let found : IsFound s [] c.args._budget (Refuted c.in-Refuted.log) =
     subst (IsFound s [] c.args._budget) c.in-Refuted.is c.requires.found in
     nothing-answer c.args._problem.now c.args.rules.now c.requires.ruled c.args._budget c.in-Refuted.log
-    (c.is_writable.ensures [] found.0.sound found.1) c.requires.decodes found
+    c.is_of_lines.ensures (c.is_writable.ensures [] found.0.sound found.1) c.requires.decodes found
     (c.found_laws.ensures s [] c.args._budget (Refuted c.in-Refuted.log) c.requires.in_order found)
 
 pub returns-clause-answer : goal.returns-clause-answer
@@ -27,5 +27,5 @@ returns-clause-answer c =
     let s = c.args.rules.now.clauses in
     let found : IsFound s [] c.args._budget (Spent c.in-Spent.log) = subst (IsFound s [] c.args._budget) c.in-Spent.is c.requires.found in
     stopped-answer c.args._problem.now c.args.rules.now c.requires.ruled c.args._budget c.in-Spent.log
-    (c.is_writable-in-Spent.ensures [] found.sound found.in_range) c.is_finite.ensures c.requires.decodes found
+    c.is_of_lines-in-Spent.ensures (c.is_writable-in-Spent.ensures [] found.sound found.in_range) c.is_finite.ensures c.requires.decodes found
     (c.found_laws.ensures s [] c.args._budget (Spent c.in-Spent.log) c.requires.in_order found)
