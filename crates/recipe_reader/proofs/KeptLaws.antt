@@ -36,7 +36,8 @@ use Rattle.recipe_reader.proofs.NumberLaws.{all_differ}
 use Rattle.directive_arguments.specs.Said.{IsLocal, IsLocalWhen, GivesLocal, GivesNamed}
 use Rattle.directive_arguments.proofs.ArgumentLaws.{arguments_local, arguments_named}
 use Rattle.recipe_reader.proofs.HeadLaws.{IsHead, IsAround, around_is, head_is}
-use Rattle.recipe_reader.proofs.RowLaws.{IsVariantRow, IsProvideRow, Keeps, add_version_keeps, add_variant_keeps, add_depends_keeps, add_provides_keeps, add_conflict_keeps, add_requirement_keeps, into_keeps, starts_rows}
+use Rattle.recipe_reader.proofs.KeptRows.{IsVariantRow, IsProvideRow, Keeps, starts_rows}
+use Rattle.recipe_reader.proofs.RowLaws.{add_version_keeps, add_variant_keeps, add_depends_keeps, add_provides_keeps, add_conflict_keeps, add_requirement_keeps, into_keeps}
 
 local_own : (o : Option Spec) → IsLocalWhen o → AllByRecursion IsLocal (option_to_list o)
 local_own None h = tt

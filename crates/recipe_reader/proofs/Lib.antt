@@ -3,6 +3,7 @@ pub mod CallLaws
 pub mod NumberLaws
 pub mod VersionLaws
 pub mod HeadLaws
+pub mod KeptRows
 pub mod RowLaws
 pub mod KeptLaws
 pub mod FileLaws

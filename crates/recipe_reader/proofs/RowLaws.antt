@@ -1,15 +1,13 @@
--- What the rows of every recipe have, directive by directive.
+-- Each directive that is read keeps what the rows of a recipe have.
 use Rattle.std.proofs.Common.{◌≡◌, ◌∙◌, ℕ, ◌+◌, eqb, Bool, true, false, cond, List, [], ◌∷◌, ◌++◌, length, map, refl, sym, ap, subst}
 use Rattle.std.specs.Prelude.{Ok, Err, Option, Some, None, IfOk, IfSome, IsSome}
 use Rattle.std.specs.List.{list_any, AllByRecursion}
 use Rattle.std.specs.Str.{bytes_eq}
 use Rattle.std.proofs.lemmas.List.{map-append}
-use Rattle.variant_values.specs.Texts.{Texts}
 use Rattle.spec_grammar.specs.Signs.{IsName}
 use Rattle.spec_grammar.specs.declared.part.Part.{Part}
 use Rattle.spec_grammar.specs.declared.part.Spec.{Spec}
 use Rattle.graph_core.specs.declared.node.Kinds.{Kinds}
-use Rattle.recipe_data.specs.Right.{is_distinct, has_right_default, all_numbers}
 use Rattle.recipe_data.specs.OfSpecGrammar.Condition.{Condition}
 use Rattle.recipe_data.specs.declared.recipe.VersionRow.{VersionRow}
 use Rattle.recipe_data.specs.declared.recipe.VariantRow.{VariantRow}
@@ -26,42 +24,13 @@ use Rattle.directive_arguments.specs.declared.variant.VariantShape.{VariantShape
 use Rattle.recipe_reader.specs.Results.{RecipeStep}
 use Rattle.directive_arguments.specs.Variants.{shape}
 use Rattle.recipe_reader.specs.Rows.{add_version, with_variant_row, add_variant, is_passed_over, add_depends, name_in, provided, add_provides, add_conflict, add_requirement, into}
-use Rattle.recipe_reader.specs.Recipes.{empty_recipe}
 use Rattle.directive_arguments.proofs.ListLaws.{all_append, all_push, all_map}
 use Rattle.directive_arguments.specs.Said.{IsLocal, IsNamed, IsShape}
 use Rattle.directive_arguments.proofs.ShapeLaws.{shape_is}
 use Rattle.recipe_reader.proofs.HeadLaws.{IsHead}
 use Rattle.recipe_reader.proofs.VersionLaws.{distinct_push}
-use Rattle.recipe_reader.proofs.NumberLaws.{IsNumbered, numbered_more, numbered_push, none_numbered, IsClimbing, climbing_more, climbing_append, none_climbing, Differ, differ_first, differ_second, differ_third}
-
--- ---- what each list has, where the next directive has this number
-
--- their texts are those that were declared, each once
-pub record AreVersions (next : ℕ) (declared : Texts) (rows : List VersionRow) : Type 0 where
-  pub texts : map (λ row. row.version) rows ≡ declared
-  pub distinct : is_distinct declared ≡ true
-  pub numbers : IsNumbered next (map (λ row. row.number) rows)
-
-abbrev pub IsVariantRow : VariantRow → Type 0
-IsVariantRow row = (has_right_default row ≡ true) × IsName row.name
-
-pub record AreVariants (next : ℕ) (rows : List VariantRow) : Type 0 where
-  pub each : AllByRecursion IsVariantRow rows
-  pub numbers : IsNumbered next (map (λ row. row.number) rows)
-
-abbrev pub IsDependRow : DependRow → Type 0
-IsDependRow row = IsSome row.part.name
-
-pub record AreDepends (next : ℕ) (rows : List DependRow) : Type 0 where
-  pub each : AllByRecursion IsDependRow rows
-  pub numbers : IsNumbered next (map (λ row. row.number) rows)
-
-abbrev pub IsProvideRow : ProvideRow → Type 0
-IsProvideRow row = AllByRecursion IsLocal row.when.specs × IsName row.name
-
-pub record AreProvides (next : ℕ) (rows : List ProvideRow) : Type 0 where
-  pub each : AllByRecursion IsProvideRow rows
-  pub numbers : IsClimbing next (map (λ row. row.number) rows)
+use Rattle.recipe_reader.proofs.NumberLaws.{numbered_push, IsClimbing, climbing_append, Differ, differ_first, differ_second, differ_third}
+use Rattle.recipe_reader.proofs.KeptRows.{IsVariantRow, IsDependRow, IsProvideRow, KeepsRows, Keeps, rows_more, depend_numbers, conflict_numbers, require_numbers}
 
 -- ---- rows of one directive
 
@@ -77,63 +46,12 @@ numbers_provided : (number : ℕ) (when : Condition) (parts : List Part)
 numbers_provided number when [] = refl
 numbers_provided number when (p ∷ parts) = ap (λ l. number ∷ l) (numbers_provided number when parts)
 
--- ---- numbers of the rows that are demanded
-
-abbrev depend_numbers : Recipe → List ℕ
-depend_numbers recipe = map (λ (row : DependRow). row.number) recipe.depends
-
-abbrev conflict_numbers : Recipe → List ℕ
-conflict_numbers recipe = map (λ (row : ConflictRow). row.number) recipe.conflicts
-
-abbrev require_numbers : Recipe → List ℕ
-require_numbers recipe = map (λ (row : RequireRow). row.number) recipe.requirements
-
--- ---- all rows, of a recipe with this name
+-- ---- the rows of a recipe with this name, directive by directive
 
 module _ (owner : List ℕ) where
-  pub record KeepsRows (next : ℕ) (declared : Texts) (recipe : Recipe) : Type 0 where
-    pub name : recipe.name ≡ owner
-    pub versions : AreVersions next declared recipe.versions
-    pub variants : AreVariants next recipe.variants
-    pub depends : AreDepends next recipe.depends
-    pub provides : AreProvides next recipe.provides
-    pub conflicts : IsNumbered next (map (λ row. row.number) recipe.conflicts)
-    pub requirements : IsNumbered next (map (λ row. row.number) recipe.requirements)
-    pub apart : Differ (all_numbers recipe)
-
-  pub record Keeps (next : ℕ) (s : State) : Type 0 where
-    pub rows : KeepsRows next s.declared s.recipe
-    pub heads : AllByRecursion IsHead s.heads
-
-  -- the number is passed over
-  pub rows_more : (n : ℕ) (declared : Texts) (recipe : Recipe) → KeepsRows n declared recipe → KeepsRows (n + 1) declared recipe
-  rows_more n declared recipe k = record {
-    name = k.name;
-    versions = record {
-      texts = k.versions.texts;
-      distinct = k.versions.distinct;
-      numbers =
-          numbered_more n (map (λ (r : VersionRow). r.number) recipe.versions) k.versions.numbers;
-    };
-    variants = record {
-      each = k.variants.each;
-      numbers =
-          numbered_more n (map (λ (r : VariantRow). r.number) recipe.variants) k.variants.numbers;
-    };
-    depends = record { each = k.depends.each; numbers = numbered_more n (depend_numbers recipe) k.depends.numbers };
-    provides = record {
-      each = k.provides.each;
-      numbers =
-          climbing_more n (map (λ (r : ProvideRow). r.number) recipe.provides) k.provides.numbers;
-    };
-    conflicts = numbered_more n (conflict_numbers recipe) k.conflicts;
-    requirements = numbered_more n (require_numbers recipe) k.requirements;
-    apart = k.apart;
-  }
-
   -- ---- version
 
-  version_keeps : (b : Bool) (place number : ℕ) (v : List ℕ) (o : Options) (s : State) → Keeps number s
+  version_keeps : (b : Bool) (place number : ℕ) (v : List ℕ) (o : Options) (s : State) → Keeps owner number s
       → list_any (bytes_eq v) s.declared ≡ b
       → IfOk (cond b (Err (fault.TwiceVersion place)) (Ok (record s {
         declared = s.declared ++ v ∷ [];
@@ -141,10 +59,10 @@ module _ (owner : List ℕ) where
           versions = s.recipe.versions ++
               record { version = v; preferred = o.preferred; deprecated = o.deprecated; number = number } ∷ [];
         };
-      }))) (Keeps (number + 1))
+      }))) (Keeps owner (number + 1))
   version_keeps true place number v o s k e = tt
   version_keeps false place number v o s k e =
-      let more = rows_more number s.declared s.recipe k.rows in
+      let more = rows_more owner number s.declared s.recipe k.rows in
       let row : VersionRow = record { version = v; preferred = o.preferred; deprecated = o.deprecated; number = number } in record {
         rows = record {
           name = k.rows.name;
@@ -166,21 +84,21 @@ module _ (owner : List ℕ) where
       }
 
   -- a version more keeps the rows right
-  pub add_version_keeps : (place number : ℕ) (v : Option (List ℕ)) (o : Options) (s : State) → Keeps number s
-      → IfOk (add_version place number v o s) (Keeps (number + 1))
+  pub add_version_keeps : (place number : ℕ) (v : Option (List ℕ)) (o : Options) (s : State) → Keeps owner number s
+      → IfOk (add_version place number v o s) (Keeps owner (number + 1))
   add_version_keeps place number None o s k = tt
   add_version_keeps place number (Some v) o s k = version_keeps (list_any (bytes_eq v) s.declared) place number v o s k refl
 
   -- ---- variants
 
   abbrev pub KeepsWith : ℕ → State → Recipe → Type 0
-  KeepsWith next s recipe = KeepsRows next s.declared recipe
+  KeepsWith next s recipe = KeepsRows owner next s.declared recipe
 
   with_variant_keeps : (place number : ℕ) (name : List ℕ) (shape : Option VariantShape) (when : Condition) (s : State) → IsName name
-      → IfSome shape IsShape → Keeps number s → IfOk (with_variant_row place number name shape when s.recipe) (KeepsWith (number + 1) s)
+      → IfSome shape IsShape → Keeps owner number s → IfOk (with_variant_row place number name shape when s.recipe) (KeepsWith (number + 1) s)
   with_variant_keeps place number name None when s named is k = tt
   with_variant_keeps place number name (Some shape) when s named is k =
-      let more = rows_more number s.declared s.recipe k.rows in
+      let more = rows_more owner number s.declared s.recipe k.rows in
       let row : VariantRow = record {
         name = name;
         kind = shape.kind;
@@ -207,7 +125,7 @@ module _ (owner : List ℕ) where
 
   -- a variant more keeps the rows right
   pub add_variant_keeps : (place number : ℕ) (name : Option (List ℕ)) (o : Options) (when : Condition) (s : State) → IfSome name IsName
-      → Keeps number s → IfOk (add_variant place number name o when s.recipe) (KeepsWith (number + 1) s)
+      → Keeps owner number s → IfOk (add_variant place number name o when s.recipe) (KeepsWith (number + 1) s)
   add_variant_keeps place number None o when s named k = tt
   add_variant_keeps place number (Some name) o when s named k =
       with_variant_keeps place number name (shape o) when s named (shape_is o.default o.multi o.values) k
@@ -221,10 +139,10 @@ module _ (owner : List ℕ) where
 
   -- a dependency more keeps the rows right
   pub add_depends_keeps : (place number : ℕ) (p : Option Part) (kinds : Kinds) (when : Condition) (s : State) → IfSome p IsNamed
-      → Keeps number s → IfOk (add_depends place number p kinds when s.recipe) (KeepsWith (number + 1) s)
+      → Keeps owner number s → IfOk (add_depends place number p kinds when s.recipe) (KeepsWith (number + 1) s)
   add_depends_keeps place number None kinds when s named k = tt
   add_depends_keeps place number (Some p) kinds when s named k =
-      let more = rows_more number s.declared s.recipe k.rows in
+      let more = rows_more owner number s.declared s.recipe k.rows in
       let row : DependRow = record { part = p; kinds = kinds; when = when; number = number } in
       let numbers = map-append (λ (r : DependRow). r.number) s.recipe.depends (row ∷ []) in
       depends_by (is_passed_over kinds p) (number + 1) s s.recipe (record s.recipe { depends = s.recipe.depends ++ row ∷ [] })
@@ -254,9 +172,9 @@ module _ (owner : List ℕ) where
 
   -- provided virtuals more keep the rows right
   pub add_provides_keeps : (place number : ℕ) (parts : List Part) (when : Condition) (s : State) → AllByRecursion IsNamed parts
-      → AllByRecursion IsLocal when.specs → Keeps number s → IfOk (add_provides place number parts when s.recipe) (KeepsWith (number + 1) s)
+      → AllByRecursion IsLocal when.specs → Keeps owner number s → IfOk (add_provides place number parts when s.recipe) (KeepsWith (number + 1) s)
   add_provides_keeps place number parts when s named local k =
-      let more = rows_more number s.declared s.recipe k.rows in
+      let more = rows_more owner number s.declared s.recipe k.rows in
       let rows = map (provided number when) parts in
       unless_empty (eqb (length parts) 0) (fault.BadArgument place) (number + 1) s
       (record s.recipe { provides = s.recipe.provides ++ rows }) (record {
@@ -279,11 +197,11 @@ module _ (owner : List ℕ) where
   -- ---- conflicts and requires
 
   -- a conflict more keeps the rows right
-  pub add_conflict_keeps : (place number : ℕ) (spec : Option Spec) (when : Condition) (s : State) → Keeps number s
+  pub add_conflict_keeps : (place number : ℕ) (spec : Option Spec) (when : Condition) (s : State) → Keeps owner number s
       → IfOk (add_conflict place number spec when s.recipe) (KeepsWith (number + 1) s)
   add_conflict_keeps place number None when s k = tt
   add_conflict_keeps place number (Some spec) when s k =
-      let more = rows_more number s.declared s.recipe k.rows in
+      let more = rows_more owner number s.declared s.recipe k.rows in
       let row : ConflictRow = record { spec = spec; when = when; number = number } in
       let numbers = map-append (λ (r : ConflictRow). r.number) s.recipe.conflicts (row ∷ []) in record {
         name = k.rows.name;
@@ -300,10 +218,10 @@ module _ (owner : List ℕ) where
       }
 
   -- a requirement more keeps the rows right
-  pub add_requirement_keeps : (place number : ℕ) (specs : List Spec) (one_of : Bool) (when : Condition) (s : State) → Keeps number s
+  pub add_requirement_keeps : (place number : ℕ) (specs : List Spec) (one_of : Bool) (when : Condition) (s : State) → Keeps owner number s
       → IfOk (add_requirement place number specs one_of when s.recipe) (KeepsWith (number + 1) s)
   add_requirement_keeps place number specs one_of when s k =
-      let more = rows_more number s.declared s.recipe k.rows in
+      let more = rows_more owner number s.declared s.recipe k.rows in
       let row : RequireRow = record { specs = specs; one_of = one_of; when = when; number = number } in
       let numbers = map-append (λ (r : RequireRow). r.number) s.recipe.requirements (row ∷ []) in
       unless_empty (eqb (length specs) 0) (fault.BadArgument place) (number + 1) s
@@ -325,19 +243,6 @@ module _ (owner : List ℕ) where
 
   -- a right recipe in a right state is a right state
   pub into_keeps : (next : ℕ) (s : State) (step : RecipeStep Recipe) → AllByRecursion IsHead s.heads → IfOk step (KeepsWith next s)
-      → IfOk (into s step) (Keeps next)
+      → IfOk (into s step) (Keeps owner next)
   into_keeps next s (Ok recipe) heads k = record { rows = k; heads = heads }
   into_keeps next s (Err e) heads k = tt
-
-  -- an empty recipe is right
-  pub starts_rows : KeepsRows 0 [] (empty_recipe owner)
-  starts_rows = record {
-    name = refl;
-    versions = record { texts = refl; distinct = refl; numbers = none_numbered };
-    variants = record { each = tt; numbers = none_numbered };
-    depends = record { each = tt; numbers = none_numbered };
-    provides = record { each = tt; numbers = none_climbing };
-    conflicts = none_numbered;
-    requirements = none_numbered;
-    apart = tt;
-  }
