@@ -62,8 +62,8 @@ FAMILIES = [
     ("compilers", families.compilers, 1000, 8000, 4.5),
     ("externals", families.externals, 1000, 8000, 7.5),
     ("records of one package", families.own_records, 500, 8000, 5),
-    ("records of other packages", families.other_records, 5000, 40000, 3),
-    ("a certificate of one line", families.long_line, 1_000_000, 16_000_000, 5.5),
+    ("records of other packages", families.other_records, 5000, 40000, 2.5),
+    ("a certificate of one line", families.long_line, 1_000_000, 16_000_000, 2.5),
 ]
 
 

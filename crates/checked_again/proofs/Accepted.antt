@@ -169,7 +169,7 @@ module _ (laws : Laws) (a : Asked) (files : Files) (dash : is_dash_path a.cert â
           let lock_read = laws.read input.problem found.graph can.formed (records_right files (command_with works.Concretize a) input read)
           found.best.means.0 is_valid (laws.texts (command_with works.Concretize a).spec input.problem.roots
           (roots_read files (command_with works.Concretize a) input read)) can.apart more
-          can.json in (
+          found.read in (
             command_with works.Check a,
             words.check,
             (
@@ -184,7 +184,7 @@ module _ (laws : Laws) (a : Asked) (files : Files) (dash : is_dash_path a.cert â
                 (
                   tt,
                   sym (laws.best input.problem input.problem.settings.conflict_budget found.graph found.log found.best
-                      (record { ordered = clauses_right _ (laws.ordered input.problem); lines = can.lines }) left a.cert held),
+                      (record { ordered = clauses_right _ (laws.ordered input.problem); lines = found.best.lines }) left a.cert held),
                   refl,
                 ),
               ),
@@ -225,7 +225,7 @@ module _ (laws : Laws) (a : Asked) (files : Files) (dash : is_dash_path a.cert â
           âˆ™ ap (Î» (path : List â„•). with_cert_by (is_dash_path path) path found.log (Some files)) path_is
           âˆ™ ap (Î» (d : Bool). with_cert_by d a.cert found.log (Some files)) dash)
 
-      refuted : CanBeRefuted input.problem found.log â†’ Poses log_verdict (one cert refutation) (refute_words a) (Ok tasks.Accepted)
+      refuted : CanBeRefuted found.log â†’ Poses log_verdict (one cert refutation) (refute_words a) (Ok tasks.Accepted)
       refuted can =
           let held : HoldsLog (one cert refutation) a.cert found.log =
           record { there = laws.there files a.cert refutation; short = can.short_cert } in (
@@ -237,7 +237,7 @@ module _ (laws : Laws) (a : Asked) (files : Files) (dash : is_dash_path a.cert â
               (
                 tt,
                 sym (laws.nothing input.problem input.problem.settings.conflict_budget found.log found.none
-                    (record { ordered = clauses_right _ (laws.ordered_rules input.problem); lines = can.lines }) (one cert refutation)
+                    (record { ordered = clauses_right _ (laws.ordered_rules input.problem); lines = found.none.lines }) (one cert refutation)
                     a.cert held),
                 refl,
               ),

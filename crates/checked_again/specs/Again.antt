@@ -3,14 +3,10 @@ use Rattle.std.specs.Prelude.{◌≡◌, ◌≢◌, ◌≤◌, ◌-◌, ◌^◌,
 use Rattle.std.specs.FinMap.{get}
 use Rattle.outside_desk.specs.Files.{Files}
 use Rattle.outside_desk.specs.Listing.{name_below}
-use Rattle.json_readers.specs.Json.{IsJson}
 use Rattle.graph_core.specs.Graphs.{Content}
-use Rattle.lock_writer.specs.Texts.{lock_data}
 use Rattle.lock_laws.specs.Forms.{IsFormedProblem}
 use Rattle.proof_log.specs.declared.line.Line.{Line}
-use Rattle.proof_log.specs.Lines.{AllLines}
 use Rattle.proof_log.specs.Readings.{log_text}
-use Rattle.proof_log.specs.Texts.{IsLine}
 use Rattle.run_input.specs.Paths.{packages_path, recipe_path}
 use Rattle.run_task.specs.Problems.{Problem}
 use Rattle.run_output.specs.Answer.TheVariants.{Best, Nothing}
@@ -63,8 +59,8 @@ command_with work a = record {
   spec = spec_in a.spec;
 }
 
--- nothing that is read stands at the path: it is not that of the settings, of the database or of a recipe, and not in the folder of the
--- packages
+-- nothing that is read stands at the path: it is not that of the settings, of the database or of a
+-- recipe, and not in the folder of the packages
 pub record StandsApart (a : Asked) (path : List ℕ) : Type 0 where
   pub settings : path ≢ a.settings
   pub database : path ≢ a.database
@@ -73,19 +69,15 @@ pub record StandsApart (a : Asked) (path : List ℕ) : Type 0 where
 
 -- ---- what a run says of a problem and of its answer, but no clause of it
 
--- no two nodes of the graph have one hash; the texts of the problem have their forms, as all that were read; the lock file's text is read as
--- its value, as `write_lock` says of each that it writes; the lines of the log are as their types say; and both files have fewer than 2^63
--- bytes, as all in memory
+-- no two nodes of the graph have one hash; the texts of the problem have their forms, as all that
+-- were read; and both files have fewer than 2^63 bytes, as all in memory
 pub record CanBeChecked (problem : Problem) (graph : Content) (log : List Line) : Type 0 where
   pub apart : AreApart graph
   pub formed : IsFormedProblem problem
-  pub json : IsJson (lock_of problem graph) (lock_data graph problem.database problem.roots)
-  pub lines : AllLines IsLine log
   pub short_lock : length (lock_of problem graph) ≤ 2 ^ 63 - 1
   pub short_cert : length (log_text log) ≤ 2 ^ 63 - 1
 
-pub record CanBeRefuted (problem : Problem) (log : List Line) : Type 0 where
-  pub lines : AllLines IsLine log
+pub record CanBeRefuted (log : List Line) : Type 0 where
   pub short_cert : length (log_text log) ≤ 2 ^ 63 - 1
 
 -- ---- what the run left
@@ -108,4 +100,4 @@ pub record IsRefutedAgain (a : Asked) (files after : Files) : Type 0 where
   pub log : List Line
   pub answer : IsFor input.problem (Nothing log)
   pub cert : get after a.cert ≡ Some (log_text log)
-  pub again : CanBeRefuted input.problem log → Poses log_verdict after (refute_words a) (Ok Accepted)
+  pub again : CanBeRefuted log → Poses log_verdict after (refute_words a) (Ok Accepted)

@@ -1,7 +1,8 @@
 -- What the process ends with.
 --
--- `files`, and the counts of faults of readings (`reads`), of puts (`puts`), of the sink of the answer (`says`) and of that of the
--- report (`errs`) are those that the devices tell before and after; `out` and `err` is what these two sinks tell of what was said.
+-- `files`, and the counts of faults of readings (`reads`), of puts (`puts`), of the sink of the
+-- answer (`says`) and of that of the report (`errs`) are those that the devices tell before and
+-- after; `out` and `err` is what these two sinks tell of what was said.
 use Rattle.std.specs.Prelude.{◌≡◌, ◌⊎◌, ℕ, ◌≤◌, List, Option, None, Ok, Err, IfSome}
 use Rattle.std.specs.declared.io.ErrorKind.{ErrorKind}
 use Rattle.std.specs.declared.io.ErrorKind.TheVariants as kinds
@@ -62,8 +63,8 @@ pub record EndsRun (words : List (List ℕ)) (files : Option Files × Option Fil
   pub ends : number ≡ number_of status
   pub answered : IsAnswered words files reads puts says errs out err kept status
 
--- a text that was asked for alone: it was said, and nothing else; or the sink of the answer failed behind a front of it, or had no
--- memory, and that is reported
+-- a text that was asked for alone: it was said, and nothing else; or the sink of the answer failed
+-- behind a front of it, or had no memory, and that is reported
 abbrev pub TellsOwn : List ℕ → ℕ × ℕ → ℕ × ℕ → Spoken → Spoken → Status → Type 0
 TellsOwn text says errs out err status =
     ((status ≡ statuses.Done) × Says out text × (says.1 ≡ says.0) × IsSilent err × (errs.1 ≡ errs.0))
@@ -75,7 +76,8 @@ pub record EndsOwn (text : List ℕ) (says errs : ℕ × ℕ) (out err : Spoken)
   pub ends : number ≡ number_of status
   pub tells : TellsOwn text says errs out err status
 
--- the system refused the words: want of memory has its own number, and any other cause one that no answer has
+-- the system refused the words: want of memory has its own number, and any other cause one that no
+-- answer has
 abbrev pub number_without_words : ErrorKind → ℕ
 number_without_words kinds.OutOfMemory = number_of statuses.NoMemory
 number_without_words _ = 10

@@ -1,5 +1,5 @@
-// Runs over the machine's files, in a folder below the one that the tests run in: what each ends
-// with, and what goes to which stream.
+//! Runs over the machine's files, in a folder below the one that the tests run in: what each ends
+//! with, and what goes to which stream.
 use crate::{own_text, run_on_machine};
 use std::alloc::{AllocError, Global};
 use std::fs;

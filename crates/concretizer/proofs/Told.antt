@@ -1,5 +1,5 @@
--- A desk that may have ceased to tell its files: what holds of those that it told behind the reading holds of those that it told at first,
--- where it tells some at the end.
+-- A desk that may have ceased to tell its files: what holds of those that it told behind the
+-- reading holds of those that it told at first, where it tells some at the end.
 use Rattle.std.proofs.Common.{◌≡◌, refl, ap, subst, sym, ◌∙◌, ℕ, Bool, true, false, List, [], ◌∷◌, Option, Some, None, inl, inr}
 use Rattle.std.specs.Prelude.{◌⊎◌, ◌+◌, IfSome}
 use Rattle.outside_desk.specs.Files.{Files, MayHold, StillTells, told, with_file}

@@ -26,8 +26,9 @@ pub record IsLocking (words : List (List ℕ)) : Type 0 where
   pub asked : IsAsked words
   pub work : PutsFiles asked.command.work
 
--- the path is one at which a command may put a file: of `concretize` that of the lock file, or of the certificate where there is one; of
--- `each` those of both for each root, by its number, in the folder that stands in the lock file's place; of all others none
+-- the path is one at which a command may put a file: of `concretize` that of the lock file, or of
+-- the certificate where there is one; of `each` those of both for each root, by its number, in the
+-- folder that stands in the lock file's place; of all others none
 abbrev pub IsPutBy : Work → Command → List ℕ → Type 0
 IsPutBy works.Concretize command path = (path ≡ command.lock) ⊎ ((path ≡ command.cert) × (is_dash_path command.cert ≡ false))
 IsPutBy works.Each command path = IsRootFile command path
@@ -43,8 +44,9 @@ abbrev pub ChangesOnly : List (List ℕ) → Files → Option Files → Type 0
 ChangesOnly words before after =
     IsSomeAnd after (λ files. (path : List ℕ) → ¬ IsPutPath words path → get files path ≡ get before path)
 
--- the words are a command that reads a file or folder at the path; where the desk tells its files, of recipes those that the folder of
--- packages names, and each path only behind what is read before it: all of that gave something, and no refusal is due there
+-- the words are a command that reads a file or folder at the path; where the desk tells its files,
+-- of recipes those that the folder of packages names, and each path only behind what is read before
+-- it: all of that gave something, and no refusal is due there
 pub record IsRead (told : Option Files) (words : List (List ℕ)) (path : List ℕ) : Type 0 where
   pub command : Command
   pub named : command_of words ≡ Some command

@@ -40,7 +40,8 @@ Attempts sense files words after out_before out_after (Err (Write stop)) = IsWri
 
 -- ---- for any desk
 
--- what the words say of how an attempt ended, and where the desk tells its files, what these say of what was read
+-- what the words say of how an attempt ended, and where the desk tells its files, what these say of
+-- what was read
 abbrev pub Follows : Option Files → List (List ℕ) → Result Outcome Stop → Type 0
 Follows told words (Ok outcome) = IsAsked words
 Follows told words (Err Usage) = command_of words ≡ None

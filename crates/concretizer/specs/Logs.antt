@@ -45,8 +45,9 @@ pub record AreStill (reads puts says errs : ℕ × ℕ) : Type 0 where
   pub said : ¬ Rose says.0 says.1
   pub err : ¬ Rose errs.0 errs.1
 
--- All that the headline says of answers, of refusals and of files, where besides each answer is one that its log shows over clauses of the problem, and
--- where a certificate that is read is right exactly as its log says
+-- All that the headline says of answers, of refusals and of files, where besides each answer is one
+-- that its log shows over clauses of the problem, and where a certificate that is read is right
+-- exactly as its log says
 pub record IsLogged (words : List (List ℕ)) (files : Option Files × Option Files) (reads puts says errs : ℕ × ℕ) (out err : Spoken)
     (answer : Status) : Type 0 where
   pub answered : IsShownByLogs answer words files puts says errs out err
@@ -58,9 +59,11 @@ pub record IsLogged (words : List (List ℕ)) (files : Option Files × Option Fi
 
 -- ---- what is kept
 
--- what is kept of a run that came to this: the log of the answer whose files were put, of `each` that of the first root without a graph,
--- or of the trial whose counts were said; the log that what `explain` said rests on: a refutation, or one that spent the budget; the log that
--- left `reasons` undecided, which spent the budget over the clauses of the demands that were said; of other commands no line
+-- what is kept of a run that came to this: the log of the answer whose files were put, of `each`
+-- that of the first root without a graph, or of the trial whose counts were said; the log that what
+-- `explain` said rests on: a refutation, or one that spent the budget; the log that left `reasons`
+-- undecided, which spent the budget over the clauses of the demands that were said; of other
+-- commands no line
 pub record HasKept (files : Files) (words : List (List ℕ)) (outcome : Outcome) (after : Option Files) (out : Spoken)
     (kept : List Line) : Type 0 where
   pub task : Task

@@ -1,7 +1,7 @@
 -- What words pose, and what each answer of a run means.
 --
--- `files` are the files at entry of a desk that tells them, `words` the words behind the program's name, and `out` and `err` what the two
--- sinks tell before and after.
+-- `files` are the files at entry of a desk that tells them, `words` the words behind the program's
+-- name, and `out` and `err` what the two sinks tell before and after.
 use Rattle.std.specs.Prelude.{◌≡◌, ◌⊎◌, ℕ, List, ◌∷◌, ◌++◌, Option, Some, None, Result, Ok, Err, codes}
 use Rattle.run_answers.specs.Exits.{Spoken}
 use Rattle.outside_desk.specs.Files.{Files, and_said}
@@ -17,7 +17,8 @@ use Rattle.run_input.specs.Status.{Status}
 use Rattle.run_input.specs.Status.TheVariants as statuses
 use Rattle.run_input.specs.Words.{Command, command_of}
 
--- the text of the one encoding of a problem, in front of which a comment says how many of the clauses are those of the rules
+-- the text of the one encoding of a problem, in front of which a comment says how many of the
+-- clauses are those of the rules
 unfoldable pub text_of : Problem → List ℕ
 text_of problem = let e = encoding_of problem in rules_line (rule_clauses problem) ++ dimacs_text problem e.clauses e.bits e.table
 

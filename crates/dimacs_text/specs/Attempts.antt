@@ -38,7 +38,8 @@ AttemptsBy files command before after (Err (Read (reads.Fault path))) = after �
 AttemptsBy files command before after (Err (Read reads.NoMemory)) = after ≡ before
 AttemptsBy files command before after written = (text : List ℕ) × Asks files command (Ok text) × SaysAll text before after written
 
--- how an attempt ended: the text was said, or stopped to be, or a refusal was due, or reading stopped; where it did nothing was said
+-- how an attempt ended: the text was said, or stopped to be, or a refusal was due, or reading
+-- stopped; where it did nothing was said
 abbrev pub Attempts : Files → List (List ℕ) → Option (List ℕ) → Option (List ℕ) → Result (Unit {0}) Stop → Type 0
 Attempts files words before after (Err Usage) = PosesBy files words None × (after ≡ before)
 Attempts files words before after (Err (Read (reads.Refused refusal))) = PosesBy files words (Some (Err refusal)) × (after ≡ before)
@@ -48,8 +49,9 @@ Attempts files words before after written = IsWritten files words before after w
 
 -- ---- for any desk
 
--- the words are a command that reads a file or folder at the path; where the desk tells its files, of recipes those that the folder of
--- packages names, and each path only behind what is read before it
+-- the words are a command that reads a file or folder at the path; where the desk tells its files,
+-- of recipes those that the folder of packages names, and each path only behind what is read before
+-- it
 pub record IsRead (told : Option Files) (words : List (List ℕ)) (path : List ℕ) : Type 0 where
   pub command : Command
   pub named : command_of words ≡ Some command
@@ -97,8 +99,8 @@ abbrev pub line_of : Stop → List ℕ
 line_of Usage = usage_line
 line_of other = stops.stop_line other
 
--- what is said of a stop, and answered: its status with its line, and the sink did not fail; or WriteFault, where it did, with a front of the
--- line; or NoMemory, with nothing said
+-- what is said of a stop, and answered: its status with its line, and the sink did not fail; or
+-- WriteFault, where it did, with a front of the line; or NoMemory, with nothing said
 abbrev pub Reports : Stop → Spoken → ℕ × ℕ → Status → Type 0
 Reports stop said faults result =
     ((result ≡ stops.stop_status stop) × (said.1 ≡ and_said said.0 (line_of stop)) × (faults.1 ≡ faults.0))

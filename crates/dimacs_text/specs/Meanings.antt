@@ -23,7 +23,8 @@ compiler_text (Some compiler) = codes " " ++ (compiler.name ++ (codes "@=" ++ co
 abbrev pub hex_digit : ℕ → ℕ
 hex_digit n = if nat_lt n 10 then 48 + n else 87 + n
 
--- a byte as it is; white space, control bytes and the backslash as a backslash with two hexadecimal digits
+-- a byte as it is; white space, control bytes and the backslash as a backslash with two hexadecimal
+-- digits
 unfoldable pub safe_byte : ℕ → List ℕ
 safe_byte b = if nat_lt 32 b && not (b == 92) then b ∷ [] else 92 ∷ hex_digit (b / 16) ∷ hex_digit (b % 16) ∷ []
 

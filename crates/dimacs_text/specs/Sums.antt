@@ -12,7 +12,8 @@ unfoldable pub number_line : ℕ → ℕ → List Lit → List ℕ
 number_line place top lits =
     codes "c number " ++ (decimal place ++ (spelling_word top ++ (decimal top ++ (codes " " ++ lits_line lits))))
 
--- what a true bit adds to a number, by the number's greatest value and how many of its bits stand behind this one
+-- what a true bit adds to a number, by the number's greatest value and how many of its bits stand
+-- behind this one
 unfoldable pub bit_weight : ℕ → ℕ → ℕ
 bit_weight top behind = if nat_le top 64 then 1 else 2 ^ behind
 
@@ -20,7 +21,8 @@ bit_weight top behind = if nat_le top 64 then 1 else 2 ^ behind
 unfoldable pub weight_text : ℕ → ℕ → List ℕ
 weight_text place weight = codes " number " ++ (decimal place ++ (codes " weight " ++ (decimal weight ++ codes "\n")))
 
--- a bit by its literal, its place among all bits, the number that it belongs to, and its weight there
+-- a bit by its literal, its place among all bits, the number that it belongs to, and its weight
+-- there
 unfoldable pub bit_line : Lit → ℕ → ℕ → ℕ → List ℕ
 bit_line lit bit place weight = codes "c " ++ (lit_text lit ++ (codes "bit " ++ (decimal bit ++ weight_text place weight)))
 
@@ -29,7 +31,8 @@ abbrev pub bit_lines : ℕ → ℕ → ℕ → List Lit → List ℕ
 bit_lines place top bit [] = []
 bit_lines place top bit (lit ∷ lits) = bit_line lit bit place (bit_weight top (length lits)) ++ bit_lines place top (bit + 1) lits
 
--- the numbers from a place on, by their greatest values, each with its bits; the bits of all count on from the given one
+-- the numbers from a place on, by their greatest values, each with its bits; the bits of all count
+-- on from the given one
 abbrev pub number_lines : ℕ → ℕ → List ℕ → List Lit → List ℕ
 number_lines place bit [] lits = []
 number_lines place bit (top ∷ tops) lits =

@@ -1,4 +1,5 @@
--- What an answer comes to, in the words of the files, of graphs that are valid, and of what they cost.
+-- What an answer comes to, in the words of the files, of graphs that are valid, and of what they
+-- cost.
 use Rattle.std.specs.Prelude.{◌≡◌, ◌==◌, ◌⊎◌, ◌<◌, ◌-◌, ◌^◌, ℕ, length, true, false, not, filter, List, Option, Some, Ok, Contains, IsSomeAnd, filter_map, slice_get}
 use Rattle.std.specs.FinMap.{get}
 use Rattle.outside_desk.specs.Files.{Files, and_said}
@@ -49,7 +50,8 @@ pub record LeavesCheapest (after : Option Files) (path : List ℕ) (problem : Pr
   pub cheapest : IsCheapest problem graph
   pub lock : IsSomeAnd after (λ files. get files path ≡ Some (lock_of problem graph))
 
--- the file at the path is a lock file of just the roots that are asked for, and this holds of its graph
+-- the file at the path is a lock file of just the roots that are asked for, and this holds of its
+-- graph
 pub record HoldsLock (files : Files) (path : List ℕ) (problem : Problem) (Holds : Content → Type 0) : Type 0 where
   pub costs : List ℕ
   pub valid : IsValidLock files path problem costs
@@ -98,7 +100,8 @@ pub record IsLeastAlone (out : Spoken) (problem : Problem) : Type 0 where
   pub needed : (number : ℕ) → Contains numbers number
       → (graph : Content) × IsWellFormed graph × (valid_for (demands_with problem (others number numbers)) problem graph ≡ true)
 
--- the budget of the settings was spent, which none of 2^64 - 1 is: more lines were written than it counts
+-- the budget of the settings was spent, which none of 2^64 - 1 is: more lines were written than it
+-- counts
 pub record IsSpent (problem : Problem) : Type 0 where
   pub lines : List Line
   pub more : problem.settings.conflict_budget < length lines

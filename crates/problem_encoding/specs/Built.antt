@@ -14,7 +14,8 @@ use Rattle.ranked_costs.specs.Ranked.{closure_values}
 use Rattle.ranked_costs.specs.Built.{rank_costs_on}
 use Rattle.problem_encoding.specs.declared.encoded.Encoded.{Encoded}
 
--- the table of the names that nodes may have, the clauses of the rules over it, and what is defined for the conditions
+-- the table of the names that nodes may have, the clauses of the rules over it, and what is defined
+-- for the conditions
 abbrev pub table_of : Problem → Table
 table_of problem = table_for problem (closure_of problem)
 

@@ -22,12 +22,13 @@ use Rattle.problem_encoding.specs.Built.{table_of, rule_clauses, rule_values}
 use Rattle.problem_encoding.specs.declared.encoded.Encoded.{Encoded}
 use Rattle.problem_encoding.specs.declared.encoded.Rules.{Rules}
 
--- models of the clauses decode to just the valid graphs, and their bits compare as the graphs' cost vectors
+-- models of the clauses decode to just the valid graphs, and their bits compare as the graphs' cost
+-- vectors
 abbrev pub Encodes : Problem → Clauses → List Lit → ((ℕ → Bool) → Content) → Type 0
 Encodes problem clauses bits decode = RanksGraphs clauses decode (IsValid problem) bits (vector problem)
 
--- the bits are over the variables of the clauses, which encode the problem over the table; each model has a graph, whose cost
--- vector its bits spell
+-- the bits are over the variables of the clauses, which encode the problem over the table; each
+-- model has a graph, whose cost vector its bits spell
 pub record AreCosted (problem : Problem) (table : Table) (clauses : Clauses) (bits : Spelling) : Type 0 where
   pub encodes : Encodes problem clauses bits.lits (λ v. decode v table)
   pub in_range : AllBelow clauses.vars bits.lits

@@ -74,7 +74,7 @@ module _ (before after : Option Files) (said more : Option (List ℕ)) where
   pub finished_meant : (lock cert : List ℕ) (task : Task) → IsFinished evidence lock cert task before after said more
       → IsFinished meaning lock cert task before after said more
   finished_meant lock cert (tasks.Solve input) s =
-      record { graph = s.graph; log = s.log; best = s.best.means; files = s.files; out = s.out }
+      record { graph = s.graph; log = s.log; best = s.best.means; files = s.files; read = s.read; out = s.out }
   finished_meant dir cert (tasks.Each input) s = apart_meant dir input.problem Solved s
   finished_meant lock cert other t = told_meant other Solved t
 

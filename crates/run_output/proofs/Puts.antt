@@ -1,5 +1,6 @@
 -- What puts leave of the files.
 use Rattle.std.proofs.Common.{◌≡◌, ◌⊎◌, inl, inr, sym, ap, subst, ◌∙◌, ℕ, true, List, Option, Result, Ok, Err}
+use Rattle.std.specs.Prelude.{OnOk}
 use Rattle.std.specs.Result.{IsErrAnd}
 use Rattle.outside_desk.specs.Files.{Files, with_file, MayHold}
 use Rattle.graph_core.specs.Graphs.{Content}
@@ -7,7 +8,7 @@ use Rattle.proof_log.specs.declared.line.Line.{Line}
 use Rattle.run_task.specs.Answers.{log_of}
 use Rattle.run_task.specs.Answer.{Answer}
 use Rattle.run_task.specs.Answer.TheVariants as answers
-use Rattle.run_output.specs.Locks.{lock_of}
+use Rattle.run_output.specs.Locks.{HasReadableLock, PutsReadable, lock_of}
 use Rattle.run_task.specs.Words.{is_dash_path}
 use Rattle.run_task.specs.Problems.{Problem}
 use Rattle.run_task.specs.WriteStop.{WriteStop}
@@ -19,6 +20,18 @@ use Rattle.run_output.specs.Put.{HoldsWhole, MayCert, with_cert, with_cert_by}
 pub carried : {A : Type 0} (stop : WriteStop) (result : Result A WriteStop) → IsErrAnd result (λ given. given ≡ stop) → result ≡ Err stop
 carried stop (Ok x) h = absurd h
 carried stop (Err given) h = ap Err h
+
+-- what holds at any end holds at a right one
+pub on_ok : {A E P : Type 0} (result : Result A E) → P → OnOk result P
+on_ok (Ok x) p = p
+on_ok (Err e) p = tt
+
+-- the lock file of an answer whose files were put
+pub readable : (problem : Problem) (answer : Answer) (done : Unit {0}) → PutsReadable problem answer (Ok done)
+    → HasReadableLock problem answer
+readable problem (answers.Best graph log) done read = read
+readable problem (answers.Nothing log) done read = tt
+readable problem (answers.Undecided log) done read = tt
 
 -- ---- the certificate
 

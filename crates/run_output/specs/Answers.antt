@@ -6,6 +6,7 @@ use Rattle.run_task.specs.Problems.{Problem}
 use Rattle.proof_log.specs.declared.line.Line.{Line}
 use Rattle.run_task.specs.Answer.{Answer}
 use Rattle.run_task.specs.Answer.TheVariants as answers
+use Rattle.run_output.specs.Locks.{IsReadAsWritten}
 use Rattle.run_output.specs.Put.{files_with, with_both, with_cert, HoldsWhole, IsHalfPut, MayCert}
 use Rattle.run_output.specs.Each.{AreSolvedApart, AreUnsaid, HaveHalfPut, HaveWhole}
 use Rattle.run_task.specs.WriteStop.{WriteStop}
@@ -62,14 +63,16 @@ Leaves lock cert problem answer before after out_before out_after (Err writes.No
 
 -- ---- answers of `concretize`
 
--- A graph was found: it is well-formed and optimal for the problem (`best`; as evidence, the log is a certificate of its costs besides);
--- CERT holds the log unless it is `-`, LOCK the graph's lock file; its nodes and its vector were said
+-- A graph was found: it is well-formed and optimal for the problem (`best`; as evidence, the log is
+-- a certificate of its costs besides); CERT holds the log unless it is `-`, LOCK the graph's lock
+-- file, which is read as it was written; its nodes and its vector were said
 pub record IsSolved (sense : Sense) (lock cert : List ℕ) (problem : Problem) (before after : Option Files)
     (out_before out_after : Option (List ℕ)) : Type 0 where
   pub graph : Content
   pub log : List Line
   pub best : sense.answers problem (answers.Best graph log)
   pub files : after ≡ with_both lock cert problem graph log before
+  pub read : IsReadAsWritten problem graph
   pub out : out_after ≡ and_said out_before (graph_text problem graph)
 
 -- No graph is valid (`none`; as evidence, the log refutes the problem's rules); CERT holds the log

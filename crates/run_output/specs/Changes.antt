@@ -12,8 +12,9 @@ pub record IsOther (lock cert path : List ℕ) : Type 0 where
   pub no_lock : path ≢ lock
   pub no_cert : is_dash_path cert ≡ false → path ≢ cert
 
--- the path is none at which a task may put a file: for the best graph the lock file's and the certificate's where there is one; for each
--- root by itself those of its number, for all numbers below that of the roots; no other task puts any
+-- the path is none at which a task may put a file: for the best graph the lock file's and the
+-- certificate's where there is one; for each root by itself those of its number, for all numbers
+-- below that of the roots; no other task puts any
 abbrev pub IsNotOf : List ℕ → List ℕ → Task → List ℕ → Type 0
 IsNotOf lock cert (tasks.Solve input) path = IsOther lock cert path
 IsNotOf dir cert (tasks.Each input) path = ¬ IsOfRoots dir (length input.problem.roots) path

@@ -1,4 +1,5 @@
--- What a run leaves where each root is solved by itself: for the root with each number its files in one folder, and its lines.
+-- What a run leaves where each root is solved by itself: for the root with each number its files in
+-- one folder, and its lines.
 use Rattle.std.specs.Prelude.{◌≡◌, ◌⊎◌, ℕ, ◌+◌, List, [], ◌∷◌, ◌++◌, Option}
 use Rattle.std.specs.List.{AllZip}
 use Rattle.outside_desk.specs.Files.{Files, and_said, SaysPart}
@@ -44,7 +45,8 @@ brief_line problem (answers.Best graph log) = vector_line (vector problem graph)
 brief_line problem (answers.Nothing log) = unsatisfiable_line
 brief_line problem (answers.Undecided log) = undecided_line problem.settings.conflict_budget
 
--- of the answers from a number on: each root by its number and its canonical text, and what was found
+-- of the answers from a number on: each root by its number and its canonical text, and what was
+-- found
 abbrev pub lines_from : Problem → ℕ → List Problem → List Answer → List ℕ
 lines_from whole root [] found = []
 lines_from whole root (problem ∷ more) [] = []
@@ -56,8 +58,8 @@ each_text problem found = lines_from problem 0 (each_alone problem) found
 
 -- ---- files
 
--- the files after the answers from a number on were written, one root behind the other: of each its certificate, and its lock file
--- where there is a graph
+-- the files after the answers from a number on were written, one root behind the other: of each its
+-- certificate, and its lock file where there is a graph
 abbrev pub files_from : List ℕ → ℕ → List Problem → List Answer → Option Files → Option Files
 files_from dir root [] found files = files
 files_from dir root (problem ∷ more) [] files = files
@@ -67,7 +69,8 @@ files_from dir root (problem ∷ more) (answer ∷ others) files =
 abbrev pub files_of_each : List ℕ → Problem → List Answer → Option Files → Option Files
 files_of_each dir problem found files = files_from dir 0 (each_alone problem) found files
 
--- a put at the path failed: all files of the roots before are whole, and those of one root are as after a put that failed
+-- a put at the path failed: all files of the roots before are whole, and those of one root are as
+-- after a put that failed
 abbrev pub IsHalfFrom : List ℕ → ℕ → List Problem → List Answer → List ℕ → Option Files → Option Files → Type 0
 IsHalfFrom dir root [] found path before after = ⊥
 IsHalfFrom dir root (problem ∷ more) [] path before after = ⊥
@@ -75,7 +78,8 @@ IsHalfFrom dir root (problem ∷ more) (answer ∷ others) path before after =
     IsHalfPut (lock_at dir root) (cert_at dir root) problem answer path before after
     ⊎ IsHalfFrom dir (root + 1) more others path (files_with (lock_at dir root) (cert_at dir root) problem answer before) after
 
--- at any end: all files of some first roots are whole, and those of the next one are as they were or whole
+-- at any end: all files of some first roots are whole, and those of the next one are as they were
+-- or whole
 abbrev pub HoldsFrom : List ℕ → ℕ → List Problem → List Answer → Option Files → Option Files → Type 0
 HoldsFrom dir root [] found before after = ⊥
 HoldsFrom dir root (problem ∷ more) [] before after = ⊥
@@ -85,9 +89,11 @@ HoldsFrom dir root (problem ∷ more) (answer ∷ others) before after =
 
 -- ---- answers of `each`
 
--- each root was solved by itself (`found`: at each place the graph is optimal for the problem of that root, or there is none, or the
--- budget was spent; as evidence, its log shows it), and they come to this; the root with number N has its certificate at DIR/N.cert and its
--- lock file at DIR/N.lock where there is a graph, every other file is as it was, and the lines of all roots were said
+-- each root was solved by itself (`found`: at each place the graph is optimal for the problem of
+-- that root, or there is none, or the budget was spent; as evidence, its log shows it), and they
+-- come to this; the root with number N has its certificate at DIR/N.cert and its lock file at
+-- DIR/N.lock where there is a graph, every other file is as it was, and the lines of all roots were
+-- said
 pub record AreSolvedApart (sense : Sense) (dir : List ℕ) (problem : Problem) (outcome : Outcome) (before after : Option Files)
     (out_before out_after : Option (List ℕ)) : Type 0 where
   pub found : List Answer

@@ -10,7 +10,8 @@ use Rattle.run_task.specs.LeastExplanation.{LeastExplanation}
 use Rattle.run_task.specs.LeastLists.{ExplainsLeast, LeastRestsOn}
 use Rattle.run_output.specs.Senses.{Sense}
 
--- the answer means what it says within the budget of the settings, and its log shows it over clauses of the problem
+-- the answer means what it says within the budget of the settings, and its log shows it over
+-- clauses of the problem
 abbrev pub IsFor : Problem → Answer → Type 0
 IsFor problem answer = IsAnswer problem problem.settings.conflict_budget answer
 

@@ -24,13 +24,15 @@ pub record IsLogOf (problem : Problem) (kept : List Line) : Type 0 where
   pub found : IsFor problem answer
   pub lines : kept ≡ log_of answer
 
--- these are the lines of the log that spent the budget over the clauses of some demands; where none was spent, there is no line
+-- these are the lines of the log that spent the budget over the clauses of some demands; where none
+-- was spent, there is no line
 pub record IsLeastLog (problem : Problem) (kept : List Line) : Type 0 where
   pub explanation : LeastExplanation
   pub explains : IsGroundedLeast problem explanation
   pub lines : kept ≡ least_log explanation
 
--- the log of the first root without a graph, of answers of all roots; where each has one, there is no line
+-- the log of the first root without a graph, of answers of all roots; where each has one, there is
+-- no line
 pub record IsLogOfAll (problem : Problem) (kept : List Line) : Type 0 where
   pub found : List Answer
   pub each : AreAnswersOf evidence problem found
@@ -45,13 +47,15 @@ pub record IsPutLogOfAll (dir : List ℕ) (problem : Problem) (outcome : Outcome
   pub files : after ≡ files_of_each dir problem found before
   pub lines : kept ≡ log_of_all found
 
--- these are the lines of the log on which an explanation of the problem rests; where some graph is valid, there is no line
+-- these are the lines of the log on which an explanation of the problem rests; where some graph is
+-- valid, there is no line
 pub record IsReasonLog (problem : Problem) (kept : List Line) : Type 0 where
   pub explanation : Explanation
   pub explains : IsGrounded problem explanation
   pub lines : kept ≡ explanation_log explanation
 
--- the log of what was searched for the task; of a task that has no search, and of one that compares, no line
+-- the log of what was searched for the task; of a task that has no search, and of one that
+-- compares, no line
 abbrev pub HoldsLog : Task → List Line → Type 0
 HoldsLog (tasks.Solve input) kept = IsLogOf input.problem kept
 HoldsLog (tasks.Each input) kept = IsLogOfAll input.problem kept
@@ -84,7 +88,8 @@ pub record IsLeastLogTo (problem : Problem) (outcome : Outcome) (text : List ℕ
   pub is_text : text ≡ least_explanation_text problem explanation
   pub lines : kept ≡ least_log explanation
 
--- it was said: so a log that is kept is that of the counts, of the demands, or over the clauses of the demands on the sink
+-- it was said: so a log that is kept is that of the counts, of the demands, or over the clauses of
+-- the demands on the sink
 pub record IsToldLog (By : List ℕ → Type 0) (said more : Option (List ℕ)) : Type 0 where
   pub text : List ℕ
   pub log : By text

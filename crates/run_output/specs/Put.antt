@@ -39,13 +39,15 @@ MayLock lock problem (answers.Best graph log) before after = MayHold before afte
 MayLock lock problem (answers.Nothing log) before after = ⊥
 MayLock lock problem (answers.Undecided log) before after = ⊥
 
--- a put at the path failed: that of the certificate, or, with the certificate whole, that of the lock file
+-- a put at the path failed: that of the certificate, or, with the certificate whole, that of the
+-- lock file
 abbrev pub IsHalfPut : List ℕ → List ℕ → Problem → Answer → List ℕ → Option Files → Option Files → Type 0
 IsHalfPut lock cert problem answer path before after =
     ((path ≡ cert) × MayCert cert (log_of answer) before after)
     ⊎ ((path ≡ lock) × MayLock lock problem answer (with_cert cert (log_of answer) before) after)
 
--- at any end: the certificate is as it was, or whole; or it is whole, and the lock file is as it was, or whole
+-- at any end: the certificate is as it was, or whole; or it is whole, and the lock file is as it
+-- was, or whole
 abbrev pub HoldsWhole : List ℕ → List ℕ → Problem → Answer → Option Files → Option Files → Type 0
 HoldsWhole lock cert problem answer before after =
     MayCert cert (log_of answer) before after ⊎ MayLock lock problem answer (with_cert cert (log_of answer) before) after

@@ -1,4 +1,5 @@
--- What is said of a graph: a line for each node, and the line of its cost vector; of installed packages; and of the order of a build.
+-- What is said of a graph: a line for each node, and the line of its cost vector; of installed
+-- packages; and of the order of a build.
 use Rattle.std.specs.Prelude.{ℕ, ◌+◌, List, [], ◌∷◌, ◌++◌, length, slice_get, Option, Some, None, codes, decimal}
 use Rattle.std.specs.List.{flat_map}
 use Rattle.spec_grammar.specs.Canonical.{variants_text}
@@ -18,7 +19,8 @@ compiler_text (Some compiler) = codes " %" ++ (compiler.name ++ (codes "@=" ++ c
 unfoldable pub label_text : Node → List ℕ
 label_text node = node.name ++ (codes "@=" ++ node.version)
 
--- where a node comes from, after a space: an external has the place of its entry, an installed node its hash
+-- where a node comes from, after a space: an external has the place of its entry, an installed node
+-- its hash
 unfoldable pub origin_text : Origin → List ℕ
 origin_text Built = codes " built"
 origin_text (External entry) = codes " external" ++ 32 ∷ decimal entry

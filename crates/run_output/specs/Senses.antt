@@ -1,4 +1,5 @@
--- In which sense an answer is one of the problem: by what it means, or besides by the log that shows it (`Evidence.antt`).
+-- In which sense an answer is one of the problem: by what it means, or besides by the log that
+-- shows it (`Evidence.antt`).
 --
 -- What is said of a run stands for either sense.
 use Rattle.run_task.specs.Problems.{Problem}
@@ -20,8 +21,10 @@ pub record Sense : Type 1 where
   -- and what is said of certificates that are read
   pub verdicts : CertificateVerdicts
 
--- What is meant, within the budget of the settings: a graph is optimal, there is none, the budget was spent; some graph is valid, or none is
--- for these demands alone, and where these are least none of them can be left out. Of a certificate any verdict may be said: what a yes shows is a fact of its own (`IsShown`)
+-- What is meant, within the budget of the settings: a graph is optimal, there is none, the budget
+-- was spent; some graph is valid, or none is for these demands alone, and where these are least
+-- none of them can be left out. Of a certificate any verdict may be said: what a yes shows is a
+-- fact of its own (`IsShown`)
 abbrev pub meaning : Sense
 meaning = record {
   answers = λ problem answer. Means problem problem.settings.conflict_budget answer;

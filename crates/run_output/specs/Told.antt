@@ -38,7 +38,8 @@ pub record IsExplained (sense : Sense) (problem : Problem) (outcome : Outcome) (
   pub is_outcome : outcome ≡ explanation_outcome explanation
   pub is_text : text ≡ explanation_text problem explanation
 
--- it was found by a list of demands of which none can be left out, each with a graph that is valid for all others
+-- it was found by a list of demands of which none can be left out, each with a graph that is valid
+-- for all others
 pub record IsReduced (sense : Sense) (problem : Problem) (outcome : Outcome) (text : List ℕ) : Type 0 where
   pub explanation : LeastExplanation
   pub explains : sense.explains_least problem explanation
@@ -88,7 +89,8 @@ pub record IsLookedFor (query : Query) (outcome : Outcome) (text : List ℕ) : T
   pub is_outcome : outcome ≡ outcomes.Solved
   pub is_text : text ≡ found_text query.problem.database places
 
--- the earliest order in which the graph can be built was made, with a chain that shows that none is shorter
+-- the earliest order in which the graph can be built was made, with a chain that shows that none is
+-- shorter
 pub record IsPlanned (graph : Content) (outcome : Outcome) (text : List ℕ) : Type 0 where
   pub waves : List (List Text)
   pub chain : List Text

@@ -9,6 +9,7 @@ ghost use Rattle.run_task.specs.Stops.{EndsInPutFault, EndsInOutputFault};
 ghost use Rattle.run_output.specs.Answers.{Leaves, PutsAnswer};
 ghost use Rattle.run_output.specs.Put.{HoldsWhole};
 ghost use Rattle.run_output.specs.Evidence.{IsFor};
+ghost use Rattle.run_output.specs.Locks.{HasReadableLock, IsReadAsWritten, PutsReadable};
 ghost use Rattle.run_output.specs.Texts.{outcome_of};
 
 use crate::answer::Outcome;
@@ -40,6 +41,7 @@ fn put_best<D: Desk>(
     ensures held { (D.files desk.new ≡ D.files desk.old)
         ⊎ HoldsWhole lock.now cert.now problem.now (answers.Best graph.now log.now)
         (D.files desk.old) (D.files desk.new) }
+    ensures read { OnOk result (IsReadAsWritten problem.now graph.now) }
     ensures no_output { EndsInOutputFault result → ⊥ }
     ensures faults { D.faults desk.new ≡ D.faults desk.old }
     ensures cause { Counts (D.put_faults desk.old) (D.put_faults desk.new) (EndsInPutFault result) }
@@ -66,6 +68,7 @@ pub(crate) fn put_answer<D: Desk>(
     ensures held { (D.files desk.new ≡ D.files desk.old)
         ⊎ HoldsWhole lock.now cert.now problem.now answer.now (D.files desk.old)
         (D.files desk.new) }
+    ensures read { PutsReadable problem.now answer.now result }
     ensures no_output { EndsInOutputFault result → ⊥ }
     ensures faults { D.faults desk.new ≡ D.faults desk.old }
     ensures cause { Counts (D.put_faults desk.old) (D.put_faults desk.new) (EndsInPutFault result) }
@@ -95,6 +98,7 @@ pub fn write_found<D: Desk, O: Sink>(
     ensures held { (D.files desk.new ≡ D.files desk.old)
         ⊎ HoldsWhole lock.now cert.now problem.now answer.now (D.files desk.old)
         (D.files desk.new) }
+    ensures read { OnOk result (HasReadableLock problem.now answer.now) }
     ensures faults { D.faults desk.new ≡ D.faults desk.old }
     ensures put { Counts (D.put_faults desk.old) (D.put_faults desk.new) (EndsInPutFault result) }
     ensures said { Counts (O.faults out.old) (O.faults out.new) (EndsInOutputFault result) }

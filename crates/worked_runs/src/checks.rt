@@ -1,4 +1,4 @@
-// The run of `zlib`: what it is given, what it has to answer and to say, and what it must leave.
+//! The run of `zlib`: what it is given, what it has to answer and to say, and what it must leave.
 use concretizer::Status;
 use outside_desk::MemoryDesk;
 use std::alloc::{AllocError, Global};

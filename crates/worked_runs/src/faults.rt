@@ -1,4 +1,4 @@
-// A run in which memory runs out.
+//! A run in which memory runs out.
 use crate::checks::{
     NO_FILES, RECIPE_PATH, ZLIB, ZLIB_LOCK, ZLIB_WORDS, check_done, holds, words_of,
 };

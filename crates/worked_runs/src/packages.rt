@@ -1,4 +1,4 @@
-// Runs in which specs lead to as many packages as they may, and to one more.
+//! Runs in which specs lead to as many packages as they may, and to one more.
 use crate::checks::words_of;
 use concretizer::{Log, Status, run_steady};
 use outside_desk::{SteadyDesk, SteadySink};

@@ -1,4 +1,4 @@
-// Whether two roots, and two lists of clauses, are worked on beside each other: at one place each.
+//! Whether two roots, and two lists of clauses, are worked on beside each other: at one place each.
 ghost use Rattle.std.specs.Prelude.{◌<◌, IfOk, length};
 ghost use Rattle.run_input.specs.Inputs.{IsPosed};
 ghost use Rattle.root_graphs.specs.Each.{IsSolvable};

@@ -1,4 +1,4 @@
-// A run over steady devices.
+//! A run over steady devices.
 use crate::checks::{RECIPE_PATH, ZLIB, ZLIB_LOCK, ZLIB_WORDS, check_done, words_of};
 use concretizer::{Log, run_steady};
 use outside_desk::{SteadyDesk, SteadySink};

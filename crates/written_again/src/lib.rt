@@ -2,16 +2,13 @@
 //!
 //! What it is: laws: a file that is put changes no other, and no folder but its own; the text of
 //! the lock file of a valid graph is read as just that graph, with the roots that were asked for.
-//! They are what joins a run that writes its files to one that reads them. Of each log in memory
-//! `right_lines` says what its type does.
-//! What it promises: no code but that walk over lines.
+//! They are what joins a run that writes its files to one that reads them.
+//! What it promises: no code.
 //! What it stands on: `outside_desk` for files, `lock_laws` and `lockfile` for lock files,
-//! `graph_rules` for what is valid, `proof_log` for lines.
+//! `graph_rules` for what is valid.
 //! What it must not know: how a graph is found, and what a log shows.
 #![tactic(auto)]
 
-mod lines;
 mod theorems;
 
-pub use lines::right_lines;
 pub use theorems::{lock_file_laws, put_laws};

@@ -5,7 +5,7 @@ use Rattle.run_output.proofs.answer.write_best.Goals as goal
 pub returns-clause-left : goal.returns-clause-left
 returns-clause-left g c =
     written c.args.lock.now c.args.cert.now c.args.input.now _ _ _ _ c.in_ok-answer.answer c.write_found-written.result
-    c.in_ok-answer.ensures c.write_found-written.ensures.left
+    c.in_ok-answer.ensures c.write_found-written.ensures.read c.write_found-written.ensures.left
 
 pub returns-clause-held : goal.returns-clause-held
 returns-clause-held g c =
